@@ -1,0 +1,6 @@
+pub mod Cells
+pub mod Chains
+pub mod Changes
+pub mod Limits
+pub mod Networks
+pub mod Refusals

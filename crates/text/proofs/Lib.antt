@@ -1,0 +1,4 @@
+pub mod Decimals
+pub mod Digits
+pub mod Fields
+pub mod Writes

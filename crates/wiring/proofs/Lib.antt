@@ -1,0 +1,5 @@
+pub mod Closure
+pub mod Codes
+pub mod Grown
+pub mod RowEdits
+pub mod Rows

@@ -1,0 +1,3 @@
+pub mod CellSets
+pub mod Tables
+pub mod Wires
