@@ -248,6 +248,7 @@ keeps (change-part (Module m) code) n l h = keeps-codes (n .voters) (set (n .mod
 
 -- a change that no check refuses keeps the limits
 pub limits-changed : (change : Change) (n : Network) → within-limits n ≡ true → refusal change n ≡ None → within-limits (changed change n) ≡ true
+unfolding refusal
 limits-changed change n h free = within (changed change n) (keeps change n (limits n h) (due-none (checks change n) free))
 
 pub limits-kept : Limits-kept

@@ -1,4 +1,5 @@
 pub mod Chains
+pub mod Dues
 pub mod Inside
 pub mod Keeps
 pub mod Links

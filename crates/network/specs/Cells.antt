@@ -61,12 +61,17 @@ modules-with n t = kept-by (λ m. together n t (Module m)) (counting 0 (module-c
 abbrev pub width : Network → Trio → ℕ
 width n t = length (voters-with n t)
 
--- the first trio of cell c, where there is one
-abbrev pub leader : Network → ℕ → Trio
-leader n c = getD (cells n) c (Voter 0)
+-- A cell by the numbers of its voter trios and of its module trios, each rising.
+abbrev pub Members : Type 0
+Members = List ℕ × List ℕ
 
-abbrev pub cell-voters : Network → ℕ → List ℕ
-cell-voters n c = voters-with n (leader n c)
+abbrev pub members-with : Network → Trio → Members
+members-with n t = (voters-with n t, modules-with n t)
 
-abbrev pub cell-modules : Network → ℕ → List ℕ
-cell-modules n c = modules-with n (leader n c)
+-- the cells in order of their numbers
+unfoldable pub all-cells : Network → List Members
+all-cells n = map (members-with n) (cells n)
+
+-- cell c, where there is one
+abbrev pub cell-at : Network → ℕ → Members
+cell-at n c = getD (all-cells n) c ([], [])

@@ -50,7 +50,7 @@ changed (cut v m) n = without-link v m n
 changed (change-part (Voter v) code) n = record { voters = set (n .voters) v code; modules = n .modules; links = n .links }
 changed (change-part (Module m) code) n = record { voters = n .voters; modules = set (n .modules) m code; links = n .links }
 
-abbrev pub refusal : Change → Network → Option Refusal
+unfoldable pub refusal : Change → Network → Option Refusal
 refusal change n = first-due (checks change n)
 
 -- the network after the call: a refused one leaves it as it was

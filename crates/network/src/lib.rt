@@ -1,10 +1,11 @@
 // What the rules of a cabinet speak of: its trios, and the refusals with their numbers.
 ghost use mathlib.Core.Path.{_≡_};
 ghost use Rattle.network.specs.Chains.{Chains-agree};
+ghost use Rattle.network.specs.Changes.{Limits-kept};
 ghost use Rattle.network.specs.Refusals.{number};
 
 // A trio of a cabinet: three copies of a voter, or of a module, by its number among its kind.
-#[derive(Clone, Copy)]
+#[derive(Clone, Copy, PartialEq, Eq)]
 pub enum Trio {
     Voter(usize),
     Module(usize),
@@ -58,5 +59,11 @@ impl Refusal {
 // Two trios are joined by a chain of links exactly where the test `joined` says so.
 pub fn chains_agree()
     ensures { λ _. ⌜ Chains-agree ⌝ }
+{
+}
+
+// A call that is not refused keeps a network within the limits, and a refused one leaves it as it was.
+pub fn limits_kept()
+    ensures { λ _. ⌜ Limits-kept ⌝ }
 {
 }

@@ -6,7 +6,7 @@ ghost use lib.ListN.{length};
 ghost use Rattle.network.specs.Chains.{same-trio};
 ghost use Rattle.network.specs.declared.Trio.{Trio};
 ghost use Rattle.sets.specs.Sets.{members};
-ghost use Rattle.wiring.specs.CellSets.{holds, in-range};
+ghost use Rattle.wiring.specs.CellSets.{first-trio, holds, in-range};
 use network::Trio;
 use sets::TrioSet;
 
@@ -25,6 +25,17 @@ impl Cell {
         match trio {
             Trio::Voter(v) => self.voters.contains(v),
             Trio::Module(m) => self.modules.contains(m),
+        }
+    }
+
+    // The first trio, voters before modules.
+    pub fn first(self) -> Option<Trio>
+        ensures { λ r. ⌜ r ≡ first-trio self ⌝ }
+    {
+        match (self.voters.first(), self.modules.first()) {
+            (Some(v), _) => Some(Trio::Voter(v)),
+            (None, Some(m)) => Some(Trio::Module(m)),
+            (None, None) => None,
         }
     }
 

@@ -1,0 +1,1 @@
+// The cells of a cabinet, found from its links.
