@@ -1,3 +1,4 @@
 pub mod Calls
 pub mod CellsOf
 pub mod Linking
+pub mod Listing

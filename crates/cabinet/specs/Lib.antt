@@ -1,2 +1,3 @@
 pub mod Cabinets
+pub mod CellLists
 pub mod Parts

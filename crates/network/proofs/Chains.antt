@@ -3,7 +3,7 @@ use mathlib.Core.Path.{_≡_, refl, sym, ap, _∙_, subst}
 use mathlib.Core.Bool.{Bool, true, false, _&&_, _||_}
 use mathlib.Core.List.{List, [], _∷_}
 use mathlib.Core.Logic.{_⊎_, inl, inr, ⊎-elim}
-use Rattle.std.proofs.shelf.Tests.{or-cases, or-left, or-right, and-parts, and-from, eqb-true, eq-eqb, false≢true}
+use Rattle.std.proofs.shelf.Tests.{or-cases, or-left, or-right, and-parts, and-from, both-ways, cases-bool, eqb-true, eq-eqb, false≢true}
 use Rattle.sets.specs.Lists.{any}
 use Rattle.network.specs.Chains.{Chain, none, more, Chains-agree, Edge, ends-at, joined, same-trio}
 use Rattle.network.specs.declared.Trio.{Trio}
@@ -54,6 +54,14 @@ joined-back (e ∷ es) t u h =
     (λ p. around e es u t (joined-back es t u p))
     (λ k. through e es u t (⊎-elim (λ p. inr (joined-back es _ _ (p .1), joined-back es _ _ (p .0))) (λ p. inl (joined-back es _ _ (p .1), joined-back es _ _ (p .0))) k))
     (split e es t u h)
+
+-- so it makes no difference which end is named first
+pub joined-both : (es : List Edge) (t u : Trio) → joined es t u ≡ joined es u t
+joined-both es t u =
+    ⊎-elim
+    (λ h. h ∙ sym (joined-back es t u h))
+    (λ h. h ∙ sym (⊎-elim (λ k. absurd (both-ways (joined es t u) h (joined-back es u t k))) (λ k. k) (cases-bool (joined es u t))))
+    (cases-bool (joined es t u))
 
 pub joined-on : (es : List Edge) (t u w : Trio) → joined es t u ≡ true → joined es u w ≡ true → joined es t w ≡ true
 unfolding joined

@@ -7,12 +7,12 @@ use lib.Dec.{leb, ltb}
 use lib.ListN.{set}
 use Rattle.std.specs.declared.option.Option.{Option}
 use Rattle.std.specs.declared.option.Option.the-variants.{Some, None}
-use Rattle.network.specs.Cells.{width, cell-count}
+use Rattle.network.specs.Cells.{width}
 use Rattle.network.specs.Limits.{most-voters, most-modules, widest, within-limits}
 use Rattle.network.specs.Networks.{Network, voter-count, module-count, has-voter, has-module, linked, with-link, without-link}
 use Rattle.network.specs.Refusals.{Check, first-due}
 use Rattle.network.specs.declared.Refusal.{Refusal}
-use Rattle.network.specs.declared.Refusal.the-variants.{VotersFull, ModulesFull, NoVoter, NoModule, LinkStands, NoLink, CellTooWide, NoCell}
+use Rattle.network.specs.declared.Refusal.the-variants.{VotersFull, ModulesFull, NoVoter, NoModule, LinkStands, NoLink, CellTooWide}
 use Rattle.network.specs.declared.Trio.{Trio}
 use Rattle.network.specs.declared.Trio.the-variants.{Voter, Module}
 
@@ -60,10 +60,6 @@ unless (Some e) done kept = kept
 
 unfoldable pub network-after : Change → Network → Network
 network-after change n = unless (refusal change n) (changed change n) n
-
--- no such cell
-abbrev pub no-cell : ℕ → Network → Check
-no-cell c n = (leb (cell-count n) c, NoCell)
 
 -- no call takes a network over the limits
 abbrev pub Limits-kept : Type 0

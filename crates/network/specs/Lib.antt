@@ -3,4 +3,5 @@ pub mod Chains
 pub mod Changes
 pub mod Limits
 pub mod Networks
+pub mod Questions
 pub mod Refusals

@@ -5,7 +5,7 @@ ghost use Rattle.network.specs.Changes.{Limits-kept};
 ghost use Rattle.network.specs.Refusals.{number};
 
 // A trio of a cabinet: three copies of a voter, or of a module, by its number among its kind.
-#[derive(Clone, Copy, PartialEq, Eq)]
+#[derive(Clone, Copy)]
 pub enum Trio {
     Voter(usize),
     Module(usize),

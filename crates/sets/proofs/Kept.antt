@@ -1,16 +1,17 @@
 -- What a test keeps of a list, and whether it holds of some element.
 use mathlib.Core.Path.{_≡_, refl, sym, ap, _∙_}
-use mathlib.Core.Bool.{Bool, true, false, cond, _||_}
+use mathlib.Core.Bool.{Bool, true, false, cond, _&&_, _||_}
 use mathlib.Core.List.{List, [], _∷_, _++_, map}
-use mathlib.Core.Logic.{inl, inr}
+use mathlib.Core.Logic.{inl, inr, ⊎-elim}
 use Prim.Native.Nat.{ℕ, zero, suc, _+_, _≤_, _<_}
 use native.Mathlib.Omega.{arith}
+use lib.Dec.{eqb}
 use lib.ListN.{length, getD}
 use Rattle.std.specs.declared.option.Option.the-variants.{Some, None}
 use Rattle.std.specs.Iters.{counting}
 use Rattle.std.specs.shelf.Lists.{joined, kept-by}
 use Rattle.std.proofs.shelf.Counted.{length-counting, getD-counting}
-use Rattle.std.proofs.shelf.Tests.{false≢true, cases-eq}
+use Rattle.std.proofs.shelf.Tests.{and-from, and-parts, both-ways, cases-bool, cases-eq, eq-eqb, eqb-true, false≢true}
 use Rattle.sets.specs.Lists.{any, first-of}
 
 -- ---- two tests over one list
@@ -118,6 +119,27 @@ counting-split a zero n =
 counting-split a (suc m) n =
     let e : suc m + n ≡ suc (m + n) = omega arith in let f : a + 1 + m ≡ a + suc m = omega arith in
     ap (counting a) e ∙ ap (λ l. a ∷ l) (counting-split (a + 1) m n ∙ ap (λ x. counting (a + 1) m ++ counting x n) f)
+
+-- an element stands among those kept if it passes
+pub any-kept : {X : Type 0} (p q : X → Bool) (xs : List X) → any p (kept-by q xs) ≡ any (λ x. q x && p x) xs
+any-kept p q [] = refl
+any-kept p q (x ∷ xs) = one (q x) (any-kept p q xs)
+  where
+    one : (b : Bool) → any p (kept-by q xs) ≡ any (λ y. q y && p y) xs → any p (cond b (x ∷ kept-by q xs) (kept-by q xs)) ≡ ((b && p x) || any (λ y. q y && p y) xs)
+    one true e = ap (λ c. p x || c) e
+    one false e = e
+
+pub in-kept : (q : ℕ → Bool) (n k : ℕ) → k < n → any (eqb k) (kept-by q (counting 0 n)) ≡ q k
+in-kept q n k lt = any-kept (eqb k) q (counting 0 n) ∙ ⊎-elim (λ h. any-below-from (λ x. q x && eqb k x) n k lt (and-from _ _ h (eq-eqb k k refl)) ∙ sym h) (λ h. none h) (cases-bool (q k))
+  where
+    none : q k ≡ false → any (λ x. q x && eqb k x) (counting 0 n) ≡ q k
+    none h =
+        ⊎-elim
+        (λ e. let r = any-below-true (λ x. q x && eqb k x) n e in
+              let both = and-parts (q (r .0)) (eqb k (r .0)) (r .2) in
+              absurd (both-ways (q k) h (ap q (eqb-true k (r .0) (both .1)) ∙ both .0)))
+        (λ e. e ∙ sym h)
+        (cases-bool (any (λ x. q x && eqb k x) (counting 0 n)))
 
 -- one number more
 pub any-below-more : (p : ℕ → Bool) (n : ℕ) → any p (counting 0 (n + 1)) ≡ (any p (counting 0 n) || p n)

@@ -1,11 +1,11 @@
 -- What is in a set, and how many: from member to members and back.
-use mathlib.Core.Path.{_≡_, ap, _∙_}
-use mathlib.Core.Bool.{true, false, _&&_}
+use mathlib.Core.Path.{_≡_, sym, ap, _∙_}
+use mathlib.Core.Bool.{Bool, true, false, _&&_}
 use mathlib.Core.List.{_++_, append-nil}
 use mathlib.Core.Logic.{inl, inr}
 use Prim.Native.Nat.{ℕ, _+_, _-_, _≤_, _<_}
 use native.Mathlib.Omega.{arith}
-use lib.Dec.{ltb}
+use lib.Dec.{eqb, ltb}
 use lib.ListN.{length}
 use Rattle.std.specs.declared.option.Option.the-variants.{Some, None}
 use Rattle.std.specs.Iters.{counting}
@@ -13,10 +13,10 @@ use Rattle.std.specs.shelf.Lists.{kept-by}
 use Rattle.std.proofs.shelf.Elements.{kept-by-append}
 use Rattle.std.proofs.shelf.Tests.{lt-ltb, le-ltb, ltb-true, and-left, and-parts, cases-lt}
 use Rattle.sets.specs.declared.TrioSet.{TrioSet}
-use Rattle.sets.specs.Lists.{first-of}
+use Rattle.sets.specs.Lists.{any, first-of}
 use Rattle.sets.specs.Sets.{member, members}
 use Rattle.sets.proofs.Digits.{bit, Tells}
-use Rattle.sets.proofs.Kept.{length-kept-le, kept-more, kept-full-below, kept-none, kept-first, kept-first-none, counting-split}
+use Rattle.sets.proofs.Kept.{in-kept, length-kept-le, kept-more, kept-full-below, kept-none, kept-first, kept-first-none, counting-split}
 
 pub member-past : (s : TrioSet) (i : ℕ) → 16 ≤ i → member s i ≡ false
 unfolding member
@@ -69,3 +69,8 @@ first-least s i e =
 pub first-none : (s : TrioSet) → first-of (members s) ≡ None → (k : ℕ) → member s k ≡ false
 unfolding members
 first-none s e k = elim (cases-lt k 16) [ inl lt ↦ kept-first-none (member s) 0 16 e k (omega arith) (omega arith) | inr le ↦ member-past s k le ]
+
+-- membership from the list
+pub member-listed : (s : TrioSet) (q : ℕ → Bool) (n k : ℕ) → n ≤ 16 → k < n → members s ≡ kept-by q (counting 0 n) → member s k ≡ q k
+unfolding members
+member-listed s q n k fits lt is = sym (in-kept (member s) 16 k (omega arith)) ∙ ap (any (eqb k)) is ∙ in-kept q n k lt

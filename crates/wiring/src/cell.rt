@@ -6,7 +6,7 @@ ghost use lib.ListN.{length};
 ghost use Rattle.network.specs.Chains.{same-trio};
 ghost use Rattle.network.specs.declared.Trio.{Trio};
 ghost use Rattle.sets.specs.Sets.{members};
-ghost use Rattle.wiring.specs.CellSets.{first-trio, holds, in-range};
+ghost use Rattle.wiring.specs.CellSets.{holds, in-range, starts-at};
 use network::Trio;
 use sets::TrioSet;
 
@@ -28,14 +28,14 @@ impl Cell {
         }
     }
 
-    // The first trio, voters before modules.
-    pub fn first(self) -> Option<Trio>
-        ensures { λ r. ⌜ r ≡ first-trio self ⌝ }
+    // The trio is the first of the cell, voters before modules.
+    pub fn starts_at(self, trio: Trio) -> bool
+        ensures { λ r. ⌜ r ≡ starts-at self trio ⌝ }
     {
-        match (self.voters.first(), self.modules.first()) {
-            (Some(v), _) => Some(Trio::Voter(v)),
-            (None, Some(m)) => Some(Trio::Module(m)),
-            (None, None) => None,
+        match (trio, self.voters.first(), self.modules.first()) {
+            (Trio::Voter(v), Some(first), _) => v == first,
+            (Trio::Module(m), None, Some(first)) => m == first,
+            _ => false,
         }
     }
 

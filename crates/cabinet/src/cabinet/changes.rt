@@ -1,9 +1,8 @@
 // The calls that change a cabinet.
 ghost use mathlib.Core.Path.{_≡_};
-ghost use mathlib.Core.List.{[], _∷_};
-ghost use Rattle.network.specs.Changes.{add-voter, add-module, link, cut, change-part, absent, network-after, refusal};
+ghost use Rattle.network.specs.Changes.{add-voter, add-module, link, cut, change-part, network-after, refusal};
 ghost use Rattle.network.specs.Networks.{empty, voter-count, module-count};
-ghost use Rattle.network.specs.Refusals.{answered, first-due};
+ghost use Rattle.network.specs.Refusals.{answered};
 ghost use Rattle.cabinet.specs.Cabinets.{network};
 use network::Refusal;
 use network::Trio;
@@ -93,16 +92,5 @@ impl Cabinet {
             Trio::Module(m) => self.modules.relabel(m, code),
         };
         Ok(())
-    }
-
-    // The cabinet has the trio, or the refusal says which kind is lacking.
-    fn present(&self, trio: Trio) -> Result<(), Refusal>
-        ensures { λ r. ⌜ r ≡ answered (first-due (absent trio (network (now (self .entry))) ∷ [])) tt ⌝ }
-    {
-        match trio {
-            Trio::Voter(v) if v >= self.voters.len() => Err(Refusal::NoVoter),
-            Trio::Module(m) if m >= self.modules.len() => Err(Refusal::NoModule),
-            _ => Ok(()),
-        }
     }
 }

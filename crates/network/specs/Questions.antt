@@ -1,0 +1,34 @@
+-- What each question answers.
+use Prim.Native.Nat.{ℕ}
+use mathlib.Core.Bool.{Bool}
+use mathlib.Core.List.{[], _∷_}
+use lib.Dec.{leb}
+use Rattle.std.specs.declared.result.Result.{Result}
+use Rattle.network.specs.Cells.{Members, cell-at, cell-count, cell-of}
+use Rattle.network.specs.Changes.{absent}
+use Rattle.network.specs.Networks.{Network, code-of, linked}
+use Rattle.network.specs.Refusals.{Check, answered, first-due}
+use Rattle.network.specs.declared.Refusal.{Refusal}
+use Rattle.network.specs.declared.Refusal.the-variants.{NoCell}
+use Rattle.network.specs.declared.Trio.{Trio}
+use Rattle.network.specs.declared.Trio.the-variants.{Voter, Module}
+
+-- the part code of a trio
+abbrev pub code-answer : Network → Trio → Result ℕ Refusal
+code-answer n t = answered (first-due (absent t n ∷ [])) (code-of n t)
+
+-- whether a link stands
+abbrev pub link-answer : Network → ℕ → ℕ → Result Bool Refusal
+link-answer n v m = answered (first-due (absent (Voter v) n ∷ (absent (Module m) n ∷ []))) (linked n v m)
+
+-- the number of a trio's cell
+abbrev pub cell-of-answer : Network → Trio → Result ℕ Refusal
+cell-of-answer n t = answered (first-due (absent t n ∷ [])) (cell-of n t)
+
+-- no such cell
+abbrev pub no-cell : ℕ → Network → Check
+no-cell c n = (leb (cell-count n) c, NoCell)
+
+-- the voter trios and the module trios of a cell
+abbrev pub cell-answer : Network → ℕ → Result Members Refusal
+cell-answer n c = answered (first-due (no-cell c n ∷ [])) (cell-at n c)
