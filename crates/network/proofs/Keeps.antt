@@ -25,7 +25,8 @@ use Rattle.network.specs.declared.Trio.the-variants.{Voter, Module}
 use Rattle.network.proofs.Chains.{chain-from-joined, joined-back, joined-beside, joined-from-chain, joined-itself, joined-on}
 use Rattle.network.proofs.Inside.{all-trios, chain-present, each-trio, link-step, present, stands-passes, step-link}
 use Rattle.network.proofs.Links.{all-kept, all-put, rising-put, rising-taken-out, same-link-is, stands-put, stands-taken-out}
-use Rattle.network.proofs.Lists.{kept-counting-more, kept-fewer, kept-none}
+use Rattle.network.proofs.Lists.{kept-counting-more}
+use Rattle.sets.proofs.Kept.{kept-more, kept-none}
 
 -- the limits, one by one
 pub record Limits (n : Network) : Type 0 where
@@ -77,7 +78,7 @@ width-under : (n o : Network) (t u : Trio) → voter-count n ≡ voter-count o �
 unfolding voters-with
 width-under n o t u same h =
     let P : ℕ → Type 0 = λ k. length (kept-by (λ v. joined (edges n) t (Voter v)) (counting 0 (voter-count n))) ≤ length (kept-by (λ v. joined (edges o) u (Voter v)) (counting 0 k)) in
-    subst P same (kept-fewer (λ v. joined (edges n) t (Voter v)) (λ v. joined (edges o) u (Voter v)) h (counting 0 (voter-count n)))
+    subst P same (kept-more (λ v. joined (edges n) t (Voter v)) (λ v. joined (edges o) u (Voter v)) h (counting 0 (voter-count n)))
 
 -- with more links standing there are more chains
 pub chain-sub : (ks ls : List Link) → ((l : Link) → stands ks l ≡ true → stands ls l ≡ true) → (t u : Trio) → Chain (map edge ks) t u → Chain (map edge ls) t u

@@ -2,17 +2,15 @@
 use mathlib.Core.Path.{_≡_, refl, sym, ap, _∙_, subst}
 use mathlib.Core.Bool.{Bool, true, false, cond, _&&_}
 use mathlib.Core.List.{List, [], _∷_, _++_, map}
-use mathlib.Core.Logic.{_⊎_, inl, inr, ⊎-elim}
+use mathlib.Core.Logic.{⊎-elim}
 use Prim.Native.Nat.{ℕ, zero, suc, _+_, _≤_, _<_}
 use native.Mathlib.Omega.{arith}
-use lib.Dec.{leb, ltb}
-use lib.ListN.{length}
 use Rattle.std.specs.Iters.{counting}
 use Rattle.std.specs.shelf.Lists.{kept-by}
-use Rattle.std.proofs.shelf.Tests.{and-parts, and-from, cases-bool, cases-eq, false≢true}
+use Rattle.std.proofs.shelf.Tests.{and-parts, and-from, cases-eq}
 use Rattle.std.proofs.shelf.Counted.{kept-by-map-counting-more}
 use Rattle.std.proofs.shelf.Lists.{map-id}
-use Rattle.sets.specs.Lists.{all, any}
+use Rattle.sets.specs.Lists.{all}
 
 module _ {X : Type 0} where
   pub all-append : (p : X → Bool) (xs ys : List X) → all p (xs ++ ys) ≡ (all p xs && all p ys)
@@ -26,22 +24,6 @@ module _ {X : Type 0} where
   pub all-map : {Y : Type 0} (p : X → Bool) (f : Y → X) (ys : List Y) → all p (map f ys) ≡ all (λ y. p (f y)) ys
   all-map p f [] = refl
   all-map p f (y ∷ ys) = ap (λ b. p (f y) && b) (all-map p f ys)
-
-  -- the same elements pass two tests that agree
-  pub kept-same : (p q : X → Bool) → ((x : X) → p x ≡ q x) → (xs : List X) → kept-by p xs ≡ kept-by q xs
-  kept-same p q same [] = refl
-  kept-same p q same (x ∷ xs) = rw (same x, kept-same p q same xs)
-
-  -- a weaker test keeps no fewer
-  pub kept-fewer : (p q : X → Bool) → ((x : X) → p x ≡ true → q x ≡ true) → (xs : List X) → length (kept-by p xs) ≤ length (kept-by q xs)
-  kept-fewer p q weaker [] = omega arith
-  kept-fewer p q weaker (x ∷ xs) = step (kept-fewer p q weaker xs) (cases-bool (p x)) (cases-bool (q x))
-    where
-      step : length (kept-by p xs) ≤ length (kept-by q xs) → (p x ≡ true) ⊎ (p x ≡ false) → (q x ≡ true) ⊎ (q x ≡ false) → length (kept-by p (x ∷ xs)) ≤ length (kept-by q (x ∷ xs))
-      step ih (inl h) (inl k) = rw (h, k) (omega arith)
-      step ih (inl h) (inr k) = absurd (false≢true (sym k ∙ weaker x h))
-      step ih (inr h) (inl k) = rw (h, k) (omega arith)
-      step ih (inr h) (inr k) = rw (h, k) ih
 
 -- a test over the numbers from a on
 pub all-counting-at : (p : ℕ → Bool) (a n : ℕ) → all p (counting a n) ≡ true → (k : ℕ) → a ≤ k → k < a + n → p k ≡ true
@@ -62,8 +44,3 @@ kept-counting-more p a n =
     let whole = map-id (counting a (n + 1)) in
     let front = map-id (counting a n) in
     rw (whole, front) at ids
-
--- none passes
-pub kept-none : (p : ℕ → Bool) (a n : ℕ) → ((k : ℕ) → a ≤ k → k < a + n → p k ≡ false) → kept-by p (counting a n) ≡ []
-kept-none p a zero h = refl
-kept-none p a (suc n) h = rw (h a (omega arith) (omega arith)) (kept-none p (a + 1) n (λ k low high. h k (omega arith) (omega arith)))

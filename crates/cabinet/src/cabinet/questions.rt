@@ -49,8 +49,8 @@ impl Cabinet {
         ensures { λ r. ⌜ r ≡ answered (first-due (absent trio (network (now (self .entry))) ∷ [])) tt ⌝ }
     {
         match trio {
-            Trio::Voter(v) if v >= self.voters.len() => Err(Refusal::NoVoter),
-            Trio::Module(m) if m >= self.modules.len() => Err(Refusal::NoModule),
+            Trio::Voter(v) if v >= self.voter_count() => Err(Refusal::NoVoter),
+            Trio::Module(m) if m >= self.module_count() => Err(Refusal::NoModule),
             _ => Ok(()),
         }
     }
