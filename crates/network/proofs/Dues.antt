@@ -44,10 +44,17 @@ module _ {X : Type 0} where
   pub answers-value : (due : Option Refusal) (x : X) → due ≡ None → Ok x ≡ answered due x
   answers-value due x h = sym (ap (λ (o : Option Refusal). answered o x) h)
 
+  -- and what it leaves
+  pub unless-refused : (due : Option Refusal) (e : Refusal) (done kept : X) → due ≡ Some e → kept ≡ unless due done kept
+  unless-refused due e done kept h = sym (ap (λ (o : Option Refusal). unless o done kept) h)
+
+  pub unless-free : (due : Option Refusal) (done kept : X) → due ≡ None → done ≡ unless due done kept
+  unless-free due done kept h = sym (ap (λ (o : Option Refusal). unless o done kept) h)
+
 pub after-refusal : (change : Change) (n : Network) (e : Refusal) → refusal change n ≡ Some e → n ≡ network-after change n
 unfolding network-after
-after-refusal change n e h = sym (ap (λ (o : Option Refusal). unless o (changed change n) n) h)
+after-refusal change n e h = unless-refused (refusal change n) e (changed change n) n h
 
 pub after-change : (change : Change) (n : Network) → refusal change n ≡ None → changed change n ≡ network-after change n
 unfolding network-after
-after-change change n h = sym (ap (λ (o : Option Refusal). unless o (changed change n) n) h)
+after-change change n h = unless-free (refusal change n) (changed change n) n h

@@ -1,0 +1,6 @@
+pub mod Bounds
+pub mod Calls
+pub mod Cuts
+pub mod Endings
+pub mod Numbers
+pub mod Written

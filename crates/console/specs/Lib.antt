@@ -1,0 +1,5 @@
+pub mod Consoles
+pub mod Held
+pub mod Replies
+pub mod Requests
+pub mod Splits
