@@ -11,11 +11,11 @@ use Rattle.std.proofs.shelf.Tests.{and-parts, and-right, and-from, both-ways, c
 use Rattle.network.specs.Cells.{edges, members-with, modules-with, together, voters-with}
 use Rattle.network.specs.Chains.{joined}
 use Rattle.network.specs.Limits.{inside}
-use Rattle.network.specs.Networks.{Network, module-count, voter-count}
+use Rattle.network.specs.Networks.{Network, module-count, present, voter-count}
 use Rattle.network.specs.declared.Trio.{Trio}
 use Rattle.network.specs.declared.Trio.the-variants.{Voter, Module}
 use Rattle.network.proofs.Chains.{chain-from-joined}
-use Rattle.network.proofs.Inside.{chain-present, present}
+use Rattle.network.proofs.Inside.{chain-present}
 use Rattle.sets.specs.Lists.{all}
 use Rattle.sets.specs.Sets.{member, members}
 use Rattle.sets.specs.declared.TrioSet.{TrioSet}

@@ -19,11 +19,10 @@ use Rattle.std.proofs.shelf.Tests.{and-from, and-parts, both-ways, cases-bool, 
 use Rattle.network.specs.Cells.{Members, all-cells, cell-at, cell-count, cell-of, cells, edges, leads, members-with, modules-with, place, precedes, together, voters-with}
 use Rattle.network.specs.Chains.{joined}
 use Rattle.network.specs.Limits.{inside}
-use Rattle.network.specs.Networks.{Network, module-count, trios, voter-count}
+use Rattle.network.specs.Networks.{Network, module-count, present, trios, voter-count}
 use Rattle.network.specs.declared.Trio.{Trio}
 use Rattle.network.specs.declared.Trio.the-variants.{Voter, Module}
 use Rattle.network.proofs.Chains.{joined-both, joined-itself}
-use Rattle.network.proofs.Inside.{present}
 use Rattle.network.proofs.Leads.{leads-from, leads-not}
 use Rattle.sets.specs.Lists.{all, first-of}
 use Rattle.sets.specs.Sets.{member, members}

@@ -12,17 +12,12 @@ use Rattle.sets.specs.Lists.{all, any}
 use Rattle.network.specs.Cells.{edge, edges}
 use Rattle.network.specs.Chains.{Chain, none, more, Edge, ends-at, joined, same-trio}
 use Rattle.network.specs.Limits.{inside}
-use Rattle.network.specs.Networks.{Link, Network, has-module, has-voter, module-count, same-link, stands, trios, voter-count}
+use Rattle.network.specs.Networks.{Link, Network, has-module, has-voter, module-count, present, same-link, stands, trios, voter-count}
 use Rattle.network.specs.declared.Trio.{Trio}
 use Rattle.network.specs.declared.Trio.the-variants.{Voter, Module}
 use Rattle.network.proofs.Chains.{same-is, same-itself}
 use Rattle.network.proofs.Links.{same-link-is, same-link-itself}
 use Rattle.network.proofs.Lists.{all-append, all-counting, all-counting-at, all-map}
-
--- the network has the trio
-abbrev pub present : Network → Trio → Bool
-present n (Voter v) = has-voter n v
-present n (Module m) = has-module n m
 
 abbrev voter-trios : Network → List Trio
 voter-trios n = map Voter (counting 0 (voter-count n))

@@ -16,14 +16,14 @@ use Rattle.sets.specs.Lists.{all, any}
 use Rattle.network.specs.Cells.{edge, edges, voters-with, width}
 use Rattle.network.specs.Chains.{Chain, none, more, Edge, ends-at, joined}
 use Rattle.network.specs.Limits.{inside, narrow, most-voters, most-modules, widest, within-limits}
-use Rattle.network.specs.Networks.{Link, Network, has-module, has-voter, linked, module-count, put, rising, same-link, stands, taken-out, trios, voter-count, with-link, without-link}
+use Rattle.network.specs.Networks.{Link, Network, has-module, has-voter, linked, module-count, present, put, rising, same-link, stands, taken-out, trios, voter-count, with-link, without-link}
 use Rattle.network.specs.Changes.{Change, add-voter, add-module, link, cut, change-part, changed, checks, Limits-kept, network-after, refusal, too-wide, unless}
 use Rattle.network.specs.Refusals.{Check, first-due}
 use Rattle.network.specs.declared.Refusal.{Refusal}
 use Rattle.network.specs.declared.Trio.{Trio}
 use Rattle.network.specs.declared.Trio.the-variants.{Voter, Module}
 use Rattle.network.proofs.Chains.{chain-from-joined, joined-back, joined-beside, joined-from-chain, joined-itself, joined-on}
-use Rattle.network.proofs.Inside.{all-trios, chain-present, each-trio, link-step, present, stands-passes, step-link}
+use Rattle.network.proofs.Inside.{all-trios, chain-present, each-trio, link-step, stands-passes, step-link}
 use Rattle.network.proofs.Links.{all-kept, all-put, rising-put, rising-taken-out, same-link-is, stands-put, stands-taken-out}
 use Rattle.network.proofs.Lists.{kept-counting-more}
 use Rattle.sets.proofs.Kept.{kept-more, kept-none}

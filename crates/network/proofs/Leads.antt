@@ -6,9 +6,9 @@ use mathlib.Core.Logic.{_⊎_, inl, inr, ⊎-elim}
 use Rattle.std.proofs.shelf.Tests.{and-from, and-parts, and-right, both-ways, cases-bool, not-from-false, not-true}
 use Rattle.sets.specs.Lists.{all, any}
 use Rattle.network.specs.Cells.{leads, precedes, together}
-use Rattle.network.specs.Networks.{Network, trios}
+use Rattle.network.specs.Networks.{Network, present, trios}
 use Rattle.network.specs.declared.Trio.{Trio}
-use Rattle.network.proofs.Inside.{all-trios, each-trio, present}
+use Rattle.network.proofs.Inside.{all-trios, each-trio}
 
 -- none passes where all fail
 none-passes : {X : Type 0} (p : X → Bool) (xs : List X) → not (any p xs) ≡ all (λ x. not (p x)) xs

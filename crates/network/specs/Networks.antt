@@ -35,6 +35,11 @@ has-voter n v = ltb v (voter-count n)
 abbrev pub has-module : Network → ℕ → Bool
 has-module n m = ltb m (module-count n)
 
+-- the network has the trio
+abbrev pub present : Network → Trio → Bool
+present n (Voter v) = has-voter n v
+present n (Module m) = has-module n m
+
 -- the trios, all voters before all modules
 abbrev pub trios : Network → List Trio
 trios n = map Voter (counting 0 (voter-count n)) ++ map Module (counting 0 (module-count n))

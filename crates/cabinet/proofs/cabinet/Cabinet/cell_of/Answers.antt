@@ -6,11 +6,10 @@ use Rattle.std.proofs.shelf.Tests.{not-false}
 use Rattle.std.specs.declared.result.Result.the-variants.{Ok}
 use Rattle.network.specs.Cells.{place}
 use Rattle.network.specs.Changes.{absent}
-use Rattle.network.specs.Networks.{Network}
+use Rattle.network.specs.Networks.{Network, present}
 use Rattle.network.specs.declared.Trio.{Trio}
 use Rattle.network.specs.declared.Trio.the-variants.{Voter, Module}
 use Rattle.network.proofs.Dues.{answers-value, miss, passed}
-use Rattle.network.proofs.Inside.{present}
 use Rattle.network.proofs.Keeps.{limits}
 use Rattle.wiring.specs.CellSets.{holds}
 use Rattle.wiring.specs.declared.cell.Cell.{Cell}
