@@ -5,14 +5,14 @@ ghost use Rattle.network.specs.Changes.{Limits-kept};
 ghost use Rattle.network.specs.Refusals.{number};
 
 // A trio of a cabinet: three copies of a voter, or of a module, by its number among its kind.
-#[derive(Clone, Copy)]
+#[derive(Clone, Copy, PartialEq, Eq, Debug)]
 pub enum Trio {
     Voter(usize),
     Module(usize),
 }
 
 // Why a call is refused.
-#[derive(Clone, Copy)]
+#[derive(Clone, Copy, PartialEq, Eq, Debug)]
 pub enum Refusal {
     // sixteen voter trios are there already
     VotersFull,
