@@ -42,6 +42,7 @@ set-list s test n fits is below =
   where
     past : (k : ℕ) → n ≤ k → test k ≡ true → ⊥
     past k h p = let lt = below k p in omega arith
+
     in-room : (k : ℕ) → test k ≡ true → (ltb k 16 && test k) ≡ test k
     in-room k p = let lt = below k p in and-from _ _ (lt-ltb k 16 (omega arith)) p ∙ sym p
 

@@ -2,22 +2,18 @@
 use mathlib.Core.Path.{_≡_, refl, sym, ap, ap₂, _∙_, subst}
 use mathlib.Core.Bool.{Bool, true, false, cond, not, _&&_}
 use mathlib.Core.List.{List, [], _∷_, _++_, map}
-use mathlib.Core.Logic.{_⊎_, inl, inr, ⊎-elim}
-use Prim.Native.Nat.{ℕ, suc, _+_, _-_, _≤_, _<_}
+use mathlib.Core.Logic.{⊎-elim}
+use Prim.Native.Nat.{ℕ, suc, _+_, _≤_, _<_}
 use native.Mathlib.Omega.{arith}
-use lib.Dec.{eqb, ltb}
-use lib.ListN.{drop, length, getD, take}
-use Rattle.std.specs.Iters.{counting}
+use lib.ListN.{length, getD, take}
 use Rattle.std.specs.Options.{isSome}
 use Rattle.std.specs.shelf.Lists.{kept-by}
 use Rattle.std.specs.declared.option.Option.{Option}
 use Rattle.std.specs.declared.option.Option.the-variants.{Some, None}
-use Rattle.std.proofs.shelf.Counted.{getD-map-counting, length-map-counting}
 use Rattle.std.proofs.shelf.Elements.{kept-by-more}
-use Rattle.std.proofs.shelf.Lists.{append-nil, at-drop-all, at-drop-more, getD-append-left, getD-append-right, getD-map, length-append, length-map, map-append, take-all}
-use Rattle.std.proofs.shelf.Tests.{and-from, and-parts, both-ways, cases-bool, cases-lt, cases-order, cond-false, cond-true, eq-eqb, eqb-true, lt-ltb, ltb-true, ne-eqb}
+use Rattle.std.proofs.shelf.Lists.{append-nil, getD-map, length-map, map-append, take-all}
+use Rattle.std.proofs.shelf.Tests.{and-from, and-parts, both-ways, cases-bool, cases-order, cond-false, cond-true, eq-eqb, lt-ltb, ltb-true, ne-eqb}
 use Rattle.network.specs.Cells.{Members, all-cells, cell-at, cell-count, cell-of, cells, edges, leads, members-with, modules-with, place, precedes, together, voters-with}
-use Rattle.network.specs.Chains.{joined}
 use Rattle.network.specs.Limits.{inside}
 use Rattle.network.specs.Networks.{Network, module-count, present, trios, voter-count}
 use Rattle.network.specs.declared.Trio.{Trio}
@@ -26,7 +22,7 @@ use Rattle.network.proofs.Chains.{joined-both, joined-itself}
 use Rattle.network.proofs.Leads.{leads-from, leads-not}
 use Rattle.sets.specs.Lists.{all, first-of}
 use Rattle.sets.specs.Sets.{member, members}
-use Rattle.sets.proofs.Members.{first-least, first-none, member-below, member-listed}
+use Rattle.sets.proofs.Members.{first-least, first-none, member-listed}
 use Rattle.wiring.specs.CellSets.{holds, in-range, is-just, shown, starts-at}
 use Rattle.wiring.specs.declared.cell.Cell.{Cell}
 use Rattle.cabinet.specs.CellLists.{shown-list}
@@ -58,12 +54,14 @@ module _ (n : Network) (t : Trio) (cell : Cell) (ins : all (inside n) (n .links)
     where
       mine : member (cell .voters) v ≡ true
       mine = let P : Trio → Type 0 = λ x. holds cell x ≡ true in subst P is held-itself
+
       first-here : (j : ℕ) → v ≡ j → ((k : ℕ) → k < j → member (cell .voters) k ≡ false) → leads n t ≡ true
       first-here j e least = leads-from n t (λ u p before. earlier u (let P : Trio → Type 0 = λ x. precedes u x ≡ true in subst P is before))
         where
           earlier : (u : Trio) → precedes u (Voter v) ≡ true → together n t u ≡ false
           earlier (Voter k) before = not-joined (Voter k) (least k (omega (arith, ltb-true k v before)))
           earlier (Module m) before = absurd (both-ways _ refl before)
+
       by : (o : Option ℕ) → first-of (members (cell .voters)) ≡ o → is-just o v ≡ leads n t
       by None e = absurd (both-ways _ (first-none (cell .voters) e v) mine)
       by (Some j) e =
@@ -73,7 +71,7 @@ module _ (n : Network) (t : Trio) (cell : Cell) (ins : all (inside n) (n .links)
           (⊎-elim
           (λ lt. absurd (both-ways _ (least .2 v lt) mine))
           (λ gt. let P : Trio → Type 0 = λ x. precedes (Voter j) x ≡ true in
-                 ne-eqb v j (omega arith) ∙ sym (not-leading (Voter j) (least .0) (subst P (sym is) (lt-ltb j v gt)))))
+          ne-eqb v j (omega arith) ∙ sym (not-leading (Voter j) (least .0) (subst P (sym is) (lt-ltb j v gt)))))
           (cases-order v j)
 
   starts-module : (m : ℕ) → t ≡ Module m → (not (isSome (first-of (members (cell .voters)))) && is-just (first-of (members (cell .modules))) m) ≡ leads n t
@@ -81,14 +79,17 @@ module _ (n : Network) (t : Trio) (cell : Cell) (ins : all (inside n) (n .links)
     where
       mine : member (cell .modules) m ≡ true
       mine = let P : Trio → Type 0 = λ x. holds cell x ≡ true in subst P is held-itself
+
       before-me : (u : Trio) → precedes u (Module m) ≡ true → precedes u t ≡ true
       before-me u b = let P : Trio → Type 0 = λ x. precedes u x ≡ true in subst P (sym is) b
+
       first-here : (j : ℕ) → m ≡ j → ((k : ℕ) → member (cell .voters) k ≡ false) → ((k : ℕ) → k < j → member (cell .modules) k ≡ false) → leads n t ≡ true
       first-here j e none least = leads-from n t (λ u p before. earlier u (let P : Trio → Type 0 = λ x. precedes u x ≡ true in subst P is before))
         where
           earlier : (u : Trio) → precedes u (Module m) ≡ true → together n t u ≡ false
           earlier (Voter k) before = not-joined (Voter k) (none k)
           earlier (Module k) before = not-joined (Module k) (least k (omega (arith, ltb-true k m before)))
+
       by-modules : ((k : ℕ) → member (cell .voters) k ≡ false) → (o : Option ℕ) → first-of (members (cell .modules)) ≡ o → is-just o m ≡ leads n t
       by-modules none None e = absurd (both-ways _ (first-none (cell .modules) e m) mine)
       by-modules none (Some j) e =
@@ -99,6 +100,7 @@ module _ (n : Network) (t : Trio) (cell : Cell) (ins : all (inside n) (n .links)
           (λ lt. absurd (both-ways _ (least .2 m lt) mine))
           (λ gt. ne-eqb m j (omega arith) ∙ sym (not-leading (Module j) (least .0) (before-me (Module j) (lt-ltb j m gt)))))
           (cases-order m j)
+
       by-voters : (o : Option ℕ) → first-of (members (cell .voters)) ≡ o → (not (isSome o) && is-just (first-of (members (cell .modules))) m) ≡ leads n t
       by-voters None e = by-modules (first-none (cell .voters) e) (first-of (members (cell .modules))) refl
       by-voters (Some v) e = sym (not-leading (Voter v) (first-least (cell .voters) v e .0) (before-me (Voter v) refl))
@@ -110,48 +112,6 @@ module _ (n : Network) (t : Trio) (cell : Cell) (ins : all (inside n) (n .links)
       at (Voter v) is = starts-voter v is
       at (Module m) is = starts-module m is
 
--- ---- the trios one by one
-
-voters-length : (n : Network) → length (map Voter (counting 0 (voter-count n))) ≡ voter-count n
-voters-length n = length-map-counting Voter 0 (voter-count n)
-
-pub length-trios : (n : Network) → length (trios n) ≡ voter-count n + module-count n
-length-trios n = length-append (map Voter (counting 0 (voter-count n))) _ ∙ ap₂ (λ a b. a + b) (voters-length n) (length-map-counting Module 0 (module-count n))
-
-pub voter-at : (n : Network) (k : ℕ) → k < voter-count n → Voter k ≡ getD (trios n) k (Voter 0)
-voter-at n k h =
-    let within : k < length (map Voter (counting 0 (voter-count n))) = omega (arith, voters-length n) in
-    sym (getD-append-left (map Voter (counting 0 (voter-count n))) _ (Voter 0) k within ∙ getD-map-counting Voter 0 (voter-count n) k k (Voter 0) h (omega arith))
-
-pub module-at : (n : Network) (k : ℕ) → voter-count n ≤ k → k < voter-count n + module-count n → Module (k - voter-count n) ≡ getD (trios n) k (Voter 0)
-module-at n k low high =
-    sym (getD-append-right (map Voter (counting 0 (voter-count n))) _ (voter-count n) k (Voter 0) (voters-length n) low
-    ∙ getD-map-counting Module 0 (module-count n) (k - voter-count n) (k - voter-count n) (Voter 0) (omega arith) (omega arith))
-
-pub trio-present : (n : Network) (k : ℕ) → k < voter-count n + module-count n → present n (getD (trios n) k (Voter 0)) ≡ true
-trio-present n k h =
-    let P : Trio → Type 0 = λ x. present n x ≡ true in
-    ⊎-elim
-    (λ lt. subst P (voter-at n k lt) (lt-ltb k (voter-count n) lt))
-    (λ ge. subst P (module-at n k ge h) (lt-ltb (k - voter-count n) (module-count n) (omega arith)))
-    (cases-lt k (voter-count n))
-
--- ---- the first cell that holds a trio
-
-module _ {X : Type 0} (test : X → Bool) (xs : List X) (i : ℕ) (so-far : place test xs ≡ i + place test (drop i xs)) where
-  pub place-hit : (d : X) → i < length xs → test (getD xs i d) ≡ true → i ≡ place test xs
-  place-hit d within h =
-      let here : place test (drop i xs) ≡ 0 = at-drop-more (place test) xs i d within ∙ cond-true (test (getD xs i d)) 0 _ h in
-      omega arith
-
-  pub place-more : (d : X) → i < length xs → test (getD xs i d) ≡ false → place test xs ≡ i + 1 + place test (drop (i + 1) xs)
-  place-more d within h =
-      let on : place test (drop i xs) ≡ suc (place test (drop (i + 1) xs)) = at-drop-more (place test) xs i d within ∙ cond-false (test (getD xs i d)) 0 _ h in
-      omega arith
-
-  pub place-end : length xs ≤ i → i ≡ place test xs
-  place-end past = let none : place test (drop i xs) ≡ 0 = at-drop-all (place test) xs i past in omega arith
-
 -- ---- the list of cells, one trio further
 
 abbrev pub cells-so-far : Network → ℕ → List Members
@@ -162,7 +122,7 @@ module _ (n : Network) (k : ℕ) (within : k < length (trios n)) where
   one-more-cell cs ds cell so-far is same first =
       let t = getD (trios n) k (Voter 0) in
       let kept : kept-by (leads n) (take (k + 1) (trios n)) ≡ kept-by (leads n) (take k (trios n)) ++ (t ∷ []) =
-        kept-by-more (leads n) (trios n) k (Voter 0) within ∙ ap (λ (l : List Trio). kept-by (leads n) (take k (trios n)) ++ l) (cond-true (leads n t) (t ∷ []) [] first) in
+      kept-by-more (leads n) (trios n) k (Voter 0) within ∙ ap (λ (l : List Trio). kept-by (leads n) (take k (trios n)) ++ l) (cond-true (leads n t) (t ∷ []) [] first) in
       ap (map shown) is ∙ map-append shown cs (cell ∷ []) ∙ ap₂ (λ (a : List Members) (b : Members). a ++ (b ∷ [])) so-far same
       ∙ sym (ap (map (members-with n)) kept ∙ map-append (members-with n) (kept-by (leads n) (take k (trios n))) (t ∷ []))
 
@@ -170,7 +130,7 @@ module _ (n : Network) (k : ℕ) (within : k < length (trios n)) where
   no-more-cell cs so-far later =
       let t = getD (trios n) k (Voter 0) in
       let kept : kept-by (leads n) (take (k + 1) (trios n)) ≡ kept-by (leads n) (take k (trios n)) =
-        kept-by-more (leads n) (trios n) k (Voter 0) within ∙ ap (λ (l : List Trio). kept-by (leads n) (take k (trios n)) ++ l) (cond-false (leads n t) (t ∷ []) [] later) ∙ append-nil (kept-by (leads n) (take k (trios n))) in
+      kept-by-more (leads n) (trios n) k (Voter 0) within ∙ ap (λ (l : List Trio). kept-by (leads n) (take k (trios n)) ++ l) (cond-false (leads n t) (t ∷ []) [] later) ∙ append-nil (kept-by (leads n) (take k (trios n))) in
       so-far ∙ sym (ap (map (members-with n)) kept)
 
 pub all-listed : (n : Network) (k : ℕ) → length (trios n) ≤ k → cells-so-far n k ≡ all-cells n

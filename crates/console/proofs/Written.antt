@@ -95,7 +95,8 @@ module _ (e : Refusal) (b : List ℕ) (room : 32 ≤ length b) where
       no-written r f at-3 is-3 =
           let whole : (first ++ digits) ++ newline ≡ first ++ (digits ++ newline) = append-assoc first digits newline in
           let long : j + length newline ≡ length (first ++ (digits ++ newline)) = simp length-append (omega (arith, second-end, first-end)) in
-          let start : j ≡ 0 + length (first ++ digits) = simp length-append (omega (arith, second-end, first-end)) in
-          ( at-3 ∙ end-of-fits j newline d last-fits ∙ ap Some long
-          , is-3 ∙ after-write-fits j newline d last-fits ∙ ap₂ (λ x y. placed x newline y) start second-placed
-          ∙ placed-placed 0 (first ++ digits) newline b (simp length-append (omega (arith, digits-few e))) ∙ ap (λ t. placed 0 t b) whole )
+          let start : j ≡ 0 + length (first ++ digits) = simp length-append (omega (arith, second-end, first-end)) in (
+            at-3 ∙ end-of-fits j newline d last-fits ∙ ap Some long,
+            is-3 ∙ after-write-fits j newline d last-fits ∙ ap₂ (λ x y. placed x newline y) start second-placed
+                ∙ placed-placed 0 (first ++ digits) newline b (simp length-append (omega (arith, digits-few e))) ∙ ap (λ t. placed 0 t b) whole,
+          )

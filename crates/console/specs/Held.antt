@@ -2,8 +2,11 @@
 use Prim.Native.Nat.{ℕ}
 use mathlib.Core.Path.{_≡_}
 use mathlib.Core.List.{List, [], _∷_, _++_}
+use mathlib.Core.Bool.{cond}
+use lib.Dec.{eqb}
 use lib.ListN.{take}
 use Rattle.std.specs.declared.option.Option.{Option}
+use Rattle.std.specs.declared.option.Option.the-variants.{Some, None}
 use Rattle.std.specs.Options.{Cases}
 use Rattle.console.specs.Splits.{Splits}
 use Rattle.console.specs.declared.lines.LineBuffer.{LineBuffer}
@@ -27,6 +30,10 @@ Goes-on input full part byte r after =
     Cases r
     (Splits (input ++ byte ∷ []) full (part ++ byte ∷ []) × Keeps (part ++ byte ∷ []) after)
     (λ line. Splits (input ++ byte ∷ []) (full ++ part ∷ []) [] × Keeps part line × Keeps [] after)
+
+-- what is left when the input ends, if it is anything
+abbrev pub left-over : LineBuffer → Option LineBuffer
+left-over buffer = cond (eqb (buffer .len) 0) None (Some buffer)
 
 -- at the end of the input, bytes after its last newline are a line
 abbrev pub Ends : List ℕ → Option LineBuffer → Type 0

@@ -9,12 +9,12 @@ ghost use Rattle.network.specs.Refusals.{answered};
 ghost use Rattle.text.specs.Placed.{placed};
 ghost use Rattle.console.specs.Consoles.{network-in};
 ghost use Rattle.console.specs.Replies.{after-line, change-of, line-refusal, no-room, reply-text};
-use cabinet::Cabinet;
-use network::Refusal;
 use crate::line::Request;
 use crate::line::parse;
 use crate::replies::SHORTEST_BUFFER;
 use crate::replies::write_reply;
+use cabinet::Cabinet;
+use network::Refusal;
 
 // A cabinet, empty at first.
 #[derive(Drop)]

@@ -38,7 +38,7 @@ through e es t u k =
     let fore = joined es t (e .0) && joined es (e .1) u in
     let back = joined es t (e .1) && joined es (e .0) u in
     let either : (fore || back) ≡ true =
-      ⊎-elim (λ p. or-left fore back (and-from _ _ (p .0) (p .1))) (λ p. or-right fore back (and-from _ _ (p .0) (p .1))) k in
+    ⊎-elim (λ p. or-left fore back (and-from _ _ (p .0) (p .1))) (λ p. or-right fore back (and-from _ _ (p .0) (p .1))) k in
     or-right (joined es t u) (fore || back) either
 
 pub joined-itself : (es : List Edge) (t : Trio) → joined es t t ≡ true
@@ -97,6 +97,7 @@ joined-beside (e ∷ es) t u h =
         let a = same-is (e .0) t (p .0) in
         let b = same-is (e .1) u (p .1) in
         through e es t u (inl (rw a (joined-itself es t), rw b (joined-itself es u)))
+
     back : (same-trio (e .0) u ≡ true) × (same-trio (e .1) t ≡ true) → joined (e ∷ es) t u ≡ true
     back p =
         let a = same-is (e .0) u (p .0) in
@@ -121,9 +122,9 @@ chain-from-joined [] t u h = let P : Trio → Type 0 = λ x. Chain [] t x in sub
 chain-from-joined (e ∷ es) t u h =
     let wide : (a b : Trio) → joined es a b ≡ true → Chain (e ∷ es) a b = λ a b k. chain-wider e es a b (chain-from-joined es a b k) in
     let there : any (ends-at (e .0) (e .1)) (e ∷ es) ≡ true =
-      or-left _ _ (or-left _ _ (and-from _ _ (same-itself (e .0)) (same-itself (e .1)))) in
+    or-left _ _ (or-left _ _ (and-from _ _ (same-itself (e .0)) (same-itself (e .1)))) in
     let back : any (ends-at (e .1) (e .0)) (e ∷ es) ≡ true =
-      or-left _ _ (or-right _ _ (and-from _ _ (same-itself (e .0)) (same-itself (e .1)))) in
+    or-left _ _ (or-right _ _ (and-from _ _ (same-itself (e .0)) (same-itself (e .1)))) in
     ⊎-elim
     (wide t u)
     (⊎-elim

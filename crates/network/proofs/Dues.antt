@@ -35,6 +35,7 @@ module _ {X : Type 0} where
     where
       same : _≡_ {A = Result X Refusal} (Err e) (Err (k .1)) → e ≡ k .1
       same q = cc
+
       never : _≡_ {A = Result X Refusal} (Err e) (Ok x) → ⊥
       never q = let z : _≡_ {A = ℕ} 0 1 = cc in omega arith
 

@@ -40,9 +40,9 @@ each-trio n p h t k =
 pub all-trios : (n : Network) (p : Trio → Bool) → ((t : Trio) → present n t ≡ true → p t ≡ true) → all p (trios n) ≡ true
 all-trios n p h =
     let vs : all p (voter-trios n) ≡ true =
-      all-map p Voter (counting 0 (voter-count n)) ∙ all-counting (λ x. p (Voter x)) 0 (voter-count n) (λ v low high. h (Voter v) (lt-ltb v (voter-count n) (omega arith))) in
+    all-map p Voter (counting 0 (voter-count n)) ∙ all-counting (λ x. p (Voter x)) 0 (voter-count n) (λ v low high. h (Voter v) (lt-ltb v (voter-count n) (omega arith))) in
     let ms : all p (module-trios n) ≡ true =
-      all-map p Module (counting 0 (module-count n)) ∙ all-counting (λ x. p (Module x)) 0 (module-count n) (λ m low high. h (Module m) (lt-ltb m (module-count n) (omega arith))) in
+    all-map p Module (counting 0 (module-count n)) ∙ all-counting (λ x. p (Module x)) 0 (module-count n) (λ m low high. h (Module m) (lt-ltb m (module-count n) (omega arith))) in
     all-append p (voter-trios n) (module-trios n) ∙ and-from _ _ vs ms
 
 -- a link that stands passes what all links pass
@@ -68,6 +68,7 @@ step-link (j ∷ js) t u h = ⊎-elim here (λ p. past (step-link js t u p)) (or
         (λ q. let parts = and-parts _ _ q in (j, or-left _ _ (same-link-itself j), inl (sym (same-is _ t (parts .0)), sym (same-is _ u (parts .1)))))
         (λ q. let parts = and-parts _ _ q in (j, or-left _ _ (same-link-itself j), inr (sym (same-is _ t (parts .1)), sym (same-is _ u (parts .0)))))
         (or-cases _ _ p)
+
     past : (l : Link) × (stands js l ≡ true) × Ends l t u → (l : Link) × (stands (j ∷ js) l ≡ true) × Ends l t u
     past w = (w .0, or-right _ _ (w .1), w .2)
 
@@ -84,6 +85,7 @@ link-step (j ∷ js) l t u h e =
       where
         both : (same-trio (Voter (l .0)) (Voter (l .0)) && same-trio (Module (l .1)) (Module (l .1))) ≡ true
         both = and-from _ _ (same-itself (Voter (l .0))) (same-itself (Module (l .1)))
+
         along : Ends l t u → ends-at t u (edge l) ≡ true
         along (inl q) = rw (q .0, q .1) (or-left _ false both)
         along (inr q) = rw (q .0, q .1) both

@@ -94,20 +94,22 @@ chain-away l ls t u away (more {u = w} b c) =
     let es = map edge (put l ls) in
     let s = step-link (put l ls) t w b in
     let old : stands ls (s .0) ≡ true =
-      ⊎-elim (λ p. absurd (both-ways _ away (meets (s .0) (same-link-is (s .0) l p) (s .1) (s .2)))) (λ p. p) (or-cases (same-link (s .0) l) (stands ls (s .0)) (sym (stands-put l (s .0) ls) ∙ s .1)) in
+    ⊎-elim (λ p. absurd (both-ways _ away (meets (s .0) (same-link-is (s .0) l p) (s .1) (s .2)))) (λ p. p) (or-cases (same-link (s .0) l) (stands ls (s .0)) (sym (stands-put l (s .0) ls) ∙ s .1)) in
     let still : joined es w (Voter (l .0)) ≡ false =
-      ⊎-elim (λ p. absurd (both-ways _ away (joined-on es t w (Voter (l .0)) (joined-beside es t w b) p))) (λ p. p) (cases-bool (joined es w (Voter (l .0)))) in
+    ⊎-elim (λ p. absurd (both-ways _ away (joined-on es t w (Voter (l .0)) (joined-beside es t w b) p))) (λ p. p) (cases-bool (joined es w (Voter (l .0)))) in
     more (link-step ls (s .0) t w old (s .2)) (chain-away l ls w u still c)
   where
     open-end : (k : Link) → k ≡ l → stands (put l ls) k ≡ true → (x : Trio) → x ≡ Module (k .1) → joined (map edge (put l ls)) x (Voter (l .0)) ≡ true
     open-end k e st x q =
         let P : Link → Type 0 = λ y. joined (map edge (put l ls)) x (Voter (y .0)) ≡ true in
         subst P e (joined-beside (map edge (put l ls)) x (Voter (k .0)) (link-step (put l ls) k x (Voter (k .0)) st (inr (q, refl))))
+
     near-end : (k : Link) → k ≡ l → (x : Trio) → x ≡ Voter (k .0) → joined (map edge (put l ls)) x (Voter (l .0)) ≡ true
     near-end k e x q =
         let P : Link → Type 0 = λ y. joined (map edge (put l ls)) x (Voter (y .0)) ≡ true in
         let R : Trio → Type 0 = λ y. joined (map edge (put l ls)) x y ≡ true in
         subst P e (subst R q (joined-itself (map edge (put l ls)) x))
+
     meets : (k : Link) → k ≡ l → stands (put l ls) k ≡ true → ((t ≡ Voter (k .0)) × (w ≡ Module (k .1))) ⊎ ((t ≡ Module (k .1)) × (w ≡ Voter (k .0))) → joined (map edge (put l ls)) t (Voter (l .0)) ≡ true
     meets k e st (inl q) = near-end k e t (q .0)
     meets k e st (inr q) = open-end k e st t (q .0)
@@ -128,16 +130,16 @@ keeps-link v m n l there fed fits =
       rises = rising-put (v, m) (n .links) (l .rises);
       insides = all-put (inside n) (v, m) (n .links) (and-from _ _ there fed) (l .insides);
       narrows = λ t. ⊎-elim
-        (λ j. let h = width-under o o t (Voter v) refl (λ w k. joined-on es (Voter v) t (Voter w) (joined-back es t (Voter v) j) k) in omega (arith, h))
-        (λ j. let h = width-under o n t t refl (λ w k. joined-from-chain (edges n) t (Voter w) (chain-away (v, m) (n .links) t (Voter w) j (chain-from-joined es t (Voter w) k))) in omega (arith, h, l .narrows t))
-        (cases-bool (joined es t (Voter v)));
+          (λ j. let h = width-under o o t (Voter v) refl (λ w k. joined-on es (Voter v) t (Voter w) (joined-back es t (Voter v) j) k) in omega (arith, h))
+          (λ j. let h = width-under o n t t refl (λ w k. joined-from-chain (edges n) t (Voter w) (chain-away (v, m) (n .links) t (Voter w) j (chain-from-joined es t (Voter w) k))) in omega (arith, h, l .narrows t))
+          (cases-bool (joined es t (Voter v)));
     }
 
 keeps-cut : (v m : ℕ) (n : Network) → Limits n → Limits (without-link v m n)
 keeps-cut v m n l =
     let o = without-link v m n in
     let fewer : (k : Link) → stands (o .links) k ≡ true → stands (n .links) k ≡ true =
-      λ k h. and-parts (not (same-link (v, m) k)) (stands (n .links) k) (sym (stands-taken-out (v, m) k (n .links)) ∙ h) .1 in
+    λ k h. and-parts (not (same-link (v, m) k)) (stands (n .links) k) (sym (stands-taken-out (v, m) k (n .links)) ∙ h) .1 in
     record {
       few-voters = l .few-voters;
       few-modules = l .few-modules;
@@ -159,23 +161,25 @@ width-more code n l t =
     let test : ℕ → Bool = λ v. joined (edges n) t (Voter v) in
     let count = voter-count n in
     let grown : length (kept-by test (counting 0 (count + 1))) ≡ length (kept-by test (counting 0 count)) + length (cond (test (0 + count)) ((0 + count) ∷ []) []) =
-      ap length (kept-counting-more test 0 count) ∙ length-append _ _ in
+    ap length (kept-counting-more test 0 count) ∙ length-append _ _ in
     let old = l .narrows t in
     let size : voter-count (one-voter-more code n) ≡ count + 1 = length-append (n .voters) (code ∷ []) in
     let few : length (kept-by test (counting 0 (count + 1))) ≤ 12 =
-      ⊎-elim
-      (λ p. let alone = lone n t (l .insides) p in omega (arith, grown, ap length alone, short (test (0 + count)) (0 + count)))
-      (λ p. let last = apart p in omega (arith, grown, rw last at grown, old))
-      (other (cases-bool (present n t))) in
+    ⊎-elim
+    (λ p. let alone = lone n t (l .insides) p in omega (arith, grown, ap length alone, short (test (0 + count)) (0 + count)))
+    (λ p. let last = apart p in omega (arith, grown, rw last at grown, old))
+    (other (cases-bool (present n t))) in
     let P : ℕ → Type 0 = λ k. length (kept-by test (counting 0 k)) ≤ 12 in
     subst P (sym size) few
   where
     other : (present n t ≡ true) ⊎ (present n t ≡ false) → (present n t ≡ false) ⊎ (present n t ≡ true)
     other (inl p) = inr p
     other (inr p) = inl p
+
     short : (b : Bool) (k : ℕ) → length (cond b (k ∷ []) []) ≤ 1
     short true k = omega arith
     short false k = omega arith
+
     apart : present n t ≡ true → joined (edges n) t (Voter (0 + voter-count n)) ≡ false
     apart p =
         ⊎-elim
@@ -195,7 +199,7 @@ keeps-voter code n l free =
       few-modules = l .few-modules;
       rises = l .rises;
       insides = all-weaker (inside n) (inside (one-voter-more code n)) (n .links)
-        (λ k h. let parts = and-parts (has-voter n (k .0)) (has-module n (k .1)) h in and-from _ _ (lt-ltb (k .0) (voter-count (one-voter-more code n)) (omega (arith, size, ltb-true (k .0) (voter-count n) (parts .0)))) (parts .1)) (l .insides);
+          (λ k h. let parts = and-parts (has-voter n (k .0)) (has-module n (k .1)) h in and-from _ _ (lt-ltb (k .0) (voter-count (one-voter-more code n)) (omega (arith, size, ltb-true (k .0) (voter-count n) (parts .0)))) (parts .1)) (l .insides);
       narrows = width-more code n l;
     }
 
@@ -209,7 +213,7 @@ keeps-module code n l free =
       few-modules = omega (arith, size, fits);
       rises = l .rises;
       insides = all-weaker (inside n) (inside (one-module-more code n)) (n .links)
-        (λ k h. let parts = and-parts (has-voter n (k .0)) (has-module n (k .1)) h in and-from _ _ (parts .0) (lt-ltb (k .1) (module-count (one-module-more code n)) (omega (arith, size, ltb-true (k .1) (module-count n) (parts .1))))) (l .insides);
+          (λ k h. let parts = and-parts (has-voter n (k .0)) (has-module n (k .1)) h in and-from _ _ (parts .0) (lt-ltb (k .1) (module-count (one-module-more code n)) (omega (arith, size, ltb-true (k .1) (module-count n) (parts .1))))) (l .insides);
       narrows = l .narrows;
     }
 

@@ -1,7 +1,10 @@
 pub mod Chains
 pub mod Dues
+pub mod InOrder
 pub mod Inside
 pub mod Keeps
 pub mod Leads
 pub mod Links
 pub mod Lists
+pub mod Numbered
+pub mod Trios

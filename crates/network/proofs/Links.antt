@@ -80,6 +80,7 @@ one-list (k ∷ ks) (l ∷ ls) g h same =
   where
     drop-left : (a b : Bool) → a ≡ false → (a || b) ≡ b
     drop-left a b e = rw e
+
     rest : k ≡ l → (x : Link) → (same-link x k ≡ true) ⊎ (same-link x k ≡ false) → stands ks x ≡ stands ls x
     rest e x (inl p) =
         let at : x ≡ k = same-link-is x k p in
@@ -104,6 +105,7 @@ stands-put l k (j ∷ js) =
   where
     at : same-link l j ≡ true → earlier l j ≡ false → stands (put l (j ∷ js)) k ≡ (same-link k l || (same-link k j || stands js k))
     at q p = let e : l ≡ j = same-link-is l j q in rw (p, q) (grind (arith, tells, ap (same-link k) e))
+
     past : stands (put l js) k ≡ (same-link k l || stands js k) → same-link l j ≡ false → earlier l j ≡ false → stands (put l (j ∷ js)) k ≡ (same-link k l || (same-link k j || stands js k))
     past ih q p = rw (p, q) (ap (λ b. same-link k j || b) ih ∙ or-swap (same-link k j) (same-link k l) (stands js k))
 

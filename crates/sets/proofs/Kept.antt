@@ -136,8 +136,8 @@ in-kept q n k lt = any-kept (eqb k) q (counting 0 n) ∙ ⊎-elim (λ h. any-bel
     none h =
         ⊎-elim
         (λ e. let r = any-below-true (λ x. q x && eqb k x) n e in
-              let both = and-parts (q (r .0)) (eqb k (r .0)) (r .2) in
-              absurd (both-ways (q k) h (ap q (eqb-true k (r .0) (both .1)) ∙ both .0)))
+        let both = and-parts (q (r .0)) (eqb k (r .0)) (r .2) in
+        absurd (both-ways (q k) h (ap q (eqb-true k (r .0) (both .1)) ∙ both .0)))
         (λ e. e ∙ sym h)
         (cases-bool (any (λ x. q x && eqb k x) (counting 0 n)))
 

@@ -86,7 +86,10 @@ fn parts_are_changed_and_absent_trios_refused() -> Result<(), Fail> {
     check_eq(cabinet.code(Trio::Voter(1)), Ok(65535))?;
     check_eq(cabinet.code(Trio::Voter(0)), Ok(0))?;
     check_eq(cabinet.code(Trio::Module(0)), Ok(7))?;
-    check_eq(cabinet.change_part(Trio::Module(1), 7), Err(Refusal::NoModule))?;
+    check_eq(
+        cabinet.change_part(Trio::Module(1), 7),
+        Err(Refusal::NoModule),
+    )?;
     check_eq(cabinet.is_linked(2, 1), Err(Refusal::NoVoter))?;
     check_eq(cabinet.cut(0, 0), Err(Refusal::NoLink))?;
     check_eq(Refusal::NoCell.number(), 8)

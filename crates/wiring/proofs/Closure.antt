@@ -59,8 +59,8 @@ module _ (ls : Links) (t : Trio) (cell next : Cell) (grows : Grows ls cell next)
       ⊎-elim
       (sound (Module m))
       (λ p. let k = any-below-true (λ v. member (cell .voters) v && feeds ls v m) 16 p in
-            let both = and-parts (member (cell .voters) (k .0)) (feeds ls (k .0) m) (k .2) in
-            joined-on (edge-list ls) t (Voter (k .0)) (Module m) (sound (Voter (k .0)) (both .0)) (step-down ls (k .0) m (both .1)))
+      let both = and-parts (member (cell .voters) (k .0)) (feeds ls (k .0) m) (k .2) in
+      joined-on (edge-list ls) t (Voter (k .0)) (Module m) (sound (Voter (k .0)) (both .0)) (step-down ls (k .0) m (both .1)))
       (or-cases _ _ (sym (grows .modules m) ∙ h))
 
   sound-voter : Sound ls t cell → (v : ℕ) → member (next .voters) v ≡ true → joined (edge-list ls) t (Voter v) ≡ true
@@ -69,8 +69,8 @@ module _ (ls : Links) (t : Trio) (cell next : Cell) (grows : Grows ls cell next)
       ⊎-elim
       (sound (Voter v))
       (λ p. let k = any-below-true (λ m. member (next .modules) m && feeds ls v m) 16 p in
-            let both = and-parts (member (next .modules) (k .0)) (feeds ls v (k .0)) (k .2) in
-            joined-on (edge-list ls) t (Module (k .0)) (Voter v) (sound-module sound (k .0) (both .0)) (step-up ls v (k .0) (both .1)))
+      let both = and-parts (member (next .modules) (k .0)) (feeds ls v (k .0)) (k .2) in
+      joined-on (edge-list ls) t (Module (k .0)) (Voter v) (sound-module sound (k .0) (both .0)) (step-up ls v (k .0) (both .1)))
       (or-cases _ _ (sym (grows .voters v) ∙ h))
 
   pub grown-sound : Sound ls t cell → Sound ls t next

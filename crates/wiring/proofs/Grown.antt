@@ -66,7 +66,7 @@ unfolding feeds-some
 feeding-none ls modules v =
     ⊎-elim
     (λ h. let k = any-below-true (λ m. member modules m && feeds ls v m) 16 h in
-          let r = feeds-range ls v (k .0) (and-parts (member modules (k .0)) (feeds ls v (k .0)) (k .2) .1) in
-          and-from _ _ (lt-ltb v 16 (r .0)) h ∙ sym h)
+    let r = feeds-range ls v (k .0) (and-parts (member modules (k .0)) (feeds ls v (k .0)) (k .2) .1) in
+    and-from _ _ (lt-ltb v 16 (r .0)) h ∙ sym h)
     (λ h. and-right (ltb v 16) (feeds-some ls modules v) h ∙ sym h)
     (cases-bool (feeds-some ls modules v))

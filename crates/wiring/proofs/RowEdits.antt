@@ -27,6 +27,7 @@ row-feeds ls rs v s within is w k = ap (λ (x : List TrioSet). member (getD x w 
     at e =
         let h : v < length (ls .rows) = omega (arith, ls .long) in
         rw (eq-eqb w v e) (ap (λ x. member (getD (set (ls .rows) v s) x no-row) k) e ∙ ap (λ x. member x k) (getD-set-same (ls .rows) v s no-row h))
+
     off : (w ≡ v → ⊥) → member (getD (set (ls .rows) v s) w no-row) k ≡ cond (eqb w v) (member s k) (member (getD (ls .rows) w no-row) k)
     off ne = rw (ne-eqb w v ne) (ap (λ x. member x k) (getD-set-other (ls .rows) v w s no-row ne))
 
@@ -40,19 +41,23 @@ list-put ls rs v m s within is more = ⊎-elim in-row past (cases-lt m 16)
   where
     fed : (w k : ℕ) → feeds rs w k ≡ cond (eqb w v) (feeds ls v k || (eqb k m && ltb m 16)) (feeds ls w k)
     fed w k = row-feeds ls rs v s within is w k ∙ ap (λ b. cond (eqb w v) b (feeds ls w k)) (more k)
+
     at : (w k : ℕ) → m < 16 → feeds rs w k ≡ (same-link (w, k) (v, m) || feeds ls w k)
     at w k h = fed w k ∙ ⊎-elim
         (λ e. rw (eq-eqb w v e, lt-ltb m 16 h) (grind (arith, tells, ap (λ x. feeds ls x k) e)))
         (λ ne. rw (ne-eqb w v ne))
         (cases-eq w v)
+
     in-row : m < 16 → link-list rs ≡ cond (ltb v 16 && ltb m 16) (put (v, m) (link-list ls)) (link-list ls)
     in-row h = rw (lt-ltb v 16 within, lt-ltb m 16 h) (list-is rs (put (v, m) (link-list ls)) (rising-put (v, m) (link-list ls) (rising-list ls))
         (λ l. at (l .0) (l .1) h ∙ sym (stands-put (v, m) l (link-list ls) ∙ ap (λ b. same-link l (v, m) || b) (stands-list ls l))))
+
     kept : (w k : ℕ) → 16 ≤ m → feeds rs w k ≡ feeds ls w k
     kept w k h = fed w k ∙ ⊎-elim
         (λ e. rw (eq-eqb w v e, le-ltb m 16 h) (grind (arith, tells, ap (λ x. feeds ls x k) e)))
         (λ ne. rw (ne-eqb w v ne))
         (cases-eq w v)
+
     past : 16 ≤ m → link-list rs ≡ cond (ltb v 16 && ltb m 16) (put (v, m) (link-list ls)) (link-list ls)
     past h = rw (lt-ltb v 16 within, le-ltb m 16 h) (list-is rs (link-list ls) (rising-list ls) (λ l. kept (l .0) (l .1) h ∙ sym (stands-list ls l)))
 
@@ -79,6 +84,7 @@ list-taken-out-past ls rs v m past is =
     nothing : (b : Bool) → (b && false) ≡ false
     nothing true = refl
     nothing false = refl
+
     gone : (l : Link) → feeds ls (l .0) (l .1) ≡ true → (not (same-link (v, m) l) && feeds ls (l .0) (l .1)) ≡ feeds ls (l .0) (l .1)
     gone l h =
         let r = feeds-range ls (l .0) (l .1) h in

@@ -37,8 +37,8 @@ stands-places : (l : Link) → l .0 < 16 → l .1 < 16 → stands places l ≡ t
 stands-places l first second =
     let row : ℕ → List Link = λ v. map (λ m. (v, m)) (counting 0 16) in
     let at : any (same-link l) (row (l .0)) ≡ true =
-      any-map (same-link l) (λ m. (l .0, m)) (counting 0 16)
-      ∙ any-below-from (λ m. same-link l (l .0, m)) 16 (l .1) second (and-from _ _ (eq-eqb (l .0) (l .0) refl) (eq-eqb (l .1) (l .1) refl)) in
+    any-map (same-link l) (λ m. (l .0, m)) (counting 0 16)
+    ∙ any-below-from (λ m. same-link l (l .0, m)) 16 (l .1) second (and-from _ _ (eq-eqb (l .0) (l .0) refl) (eq-eqb (l .1) (l .1) refl)) in
     any-joined (same-link l) row (counting 0 16) ∙ any-below-from (λ v. any (same-link l) (row v)) 16 (l .0) first at
 
 pub nothing-in : (m : ℕ) → member no-row m ≡ false
@@ -59,6 +59,7 @@ stands-list ls l = stands-kept (λ k. feeds ls (k .0) (k .1)) l places ∙ ⊎-e
   where
     on : feeds ls (l .0) (l .1) ≡ true → (stands places l && feeds ls (l .0) (l .1)) ≡ feeds ls (l .0) (l .1)
     on h = let r = feeds-range ls (l .0) (l .1) h in rw (stands-places l (r .0) (r .1))
+
     off : feeds ls (l .0) (l .1) ≡ false → (stands places l && feeds ls (l .0) (l .1)) ≡ feeds ls (l .0) (l .1)
     off h = and-right _ _ h ∙ sym h
 

@@ -3,6 +3,7 @@ ghost use mathlib.Core.Path.{_≡_};
 ghost use Prim.Native.Nat.{_≤_};
 ghost use lib.ListN.{length};
 
+mod counts;
 mod entries;
 
 // What is kept of a trio: the code of the part that its three copies are.

@@ -10,11 +10,11 @@ ghost use Rattle.network.specs.declared.Trio.the-variants.{Voter};
 ghost use Rattle.wiring.specs.CellSets.{holds, shown};
 ghost use Rattle.cabinet.specs.CellLists.{listed, shown-list};
 ghost use Rattle.cabinet.specs.Cabinets.{network};
+use super::Cabinet;
+use crate::cell_list::CellList;
 use network::Refusal;
 use network::Trio;
 use wiring::Cell;
-use crate::cell_list::CellList;
-use super::Cabinet;
 
 impl Cabinet {
     // All cells: those of the trios that are the first of theirs.

@@ -4,11 +4,11 @@ ghost use Rattle.network.specs.Changes.{add-voter, add-module, link, cut, chang
 ghost use Rattle.network.specs.Networks.{empty, voter-count, module-count};
 ghost use Rattle.network.specs.Refusals.{answered};
 ghost use Rattle.cabinet.specs.Cabinets.{network};
+use super::Cabinet;
 use network::Refusal;
 use network::Trio;
 use wiring::Links;
 use wiring::TrioTable;
-use super::Cabinet;
 
 // Voter trios in one cell.
 const WIDEST: usize = 12;
@@ -90,7 +90,8 @@ impl Cabinet {
         match trio {
             Trio::Voter(v) => self.voters.relabel(v, code),
             Trio::Module(m) => self.modules.relabel(m, code),
-        };
+        }
+        ;
         Ok(())
     }
 }

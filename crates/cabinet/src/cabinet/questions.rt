@@ -6,9 +6,9 @@ ghost use Rattle.network.specs.Networks.{voter-count, module-count};
 ghost use Rattle.network.specs.Questions.{code-answer, link-answer};
 ghost use Rattle.network.specs.Refusals.{answered, first-due};
 ghost use Rattle.cabinet.specs.Cabinets.{network};
+use super::Cabinet;
 use network::Refusal;
 use network::Trio;
-use super::Cabinet;
 
 impl Cabinet {
     // How many voter trios there are.

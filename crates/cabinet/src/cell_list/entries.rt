@@ -5,9 +5,9 @@ ghost use mathlib.Core.List.{[], _∷_, _++_};
 ghost use lib.Dec.{ltb};
 ghost use lib.ListN.{length};
 ghost use Rattle.cabinet.specs.CellLists.{listed};
+use super::CellList;
 use sets::TrioSet;
 use wiring::Cell;
-use super::CellList;
 
 impl CellList {
     // The cells, in order of their numbers.

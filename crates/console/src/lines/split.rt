@@ -4,7 +4,7 @@ ghost use lib.ListN.{take};
 ghost use mathlib.Core.List.{List, [], _∷_, _++_};
 ghost use mathlib.Core.Path.{_≡_};
 ghost use Prim.Native.Nat.{ℕ};
-ghost use Rattle.console.specs.Held.{Accepts, Ends, Goes-on, Keeps, held};
+ghost use Rattle.console.specs.Held.{Accepts, Ends, Goes-on, Keeps, held, left-over};
 ghost use Rattle.console.specs.Requests.{request};
 ghost use Rattle.console.specs.Splits.{Splits};
 use super::KEPT;
@@ -12,6 +12,7 @@ use super::LineBuffer;
 use super::NEWLINE;
 
 impl LineBuffer {
+    // An empty line.
     pub fn new() -> LineBuffer
         ensures { λ r. ⌜ Keeps [] r ⌝ }
     {
@@ -47,7 +48,8 @@ impl LineBuffer {
 
     // The line that the end of the input ends, if there is one.
     pub fn finish(self) -> Option<LineBuffer>
-        ensures { λ r. ⌜ ((part : List ℕ) → Keeps part self → Ends part r) ⌝ }
+        ensures value { λ r. ⌜ r ≡ left-over self ⌝ }
+        ensures ends { λ r. ⌜ ((part : List ℕ) → Keeps part self → Ends part r) ⌝ }
     {
         if self.len == 0 { None } else { Some(self) }
     }

@@ -7,10 +7,10 @@ ghost use Rattle.network.specs.declared.Trio.{Trio};
 ghost use Rattle.sets.specs.Sets.{member};
 ghost use Rattle.wiring.specs.CellSets.{holds, in-range};
 ghost use Rattle.wiring.specs.Wires.{edge-list, fed-by-some, feeds-some};
+use super::Links;
+use crate::cell::Cell;
 use network::Trio;
 use sets::TrioSet;
-use crate::cell::Cell;
-use super::Links;
 
 impl Links {
     // The cell that a trio is in: the trio, and again and again what the links join to it, until nothing is added.

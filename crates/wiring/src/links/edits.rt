@@ -5,8 +5,8 @@ ghost use mathlib.Core.List.{[]};
 ghost use lib.Dec.{ltb};
 ghost use Rattle.network.specs.Networks.{put, stands, taken-out};
 ghost use Rattle.wiring.specs.Wires.{link-list};
-use sets::TrioSet;
 use super::Links;
+use sets::TrioSet;
 
 impl Links {
     // No link at all.

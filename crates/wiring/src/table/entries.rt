@@ -1,4 +1,4 @@
-// What can be asked of a trio table, and how it changes.
+// The trios of a table, one by one.
 ghost use mathlib.Core.Path.{_≡_};
 ghost use mathlib.Core.Bool.{cond};
 ghost use mathlib.Core.List.{[], _∷_, _++_};
@@ -19,23 +19,6 @@ impl TrioRecord {
 }
 
 impl<const N: usize> TrioTable<N> {
-    // No trio yet.
-    pub fn new() -> TrioTable<N>
-        ensures { λ r. ⌜ codes r ≡ [] ⌝ }
-    {
-        TrioTable {
-            trios: [TrioRecord { code: 0 }; N],
-            count: 0,
-        }
-    }
-
-    // How many trios there are.
-    pub fn len(&self) -> usize
-        ensures { λ r. ⌜ r ≡ length (codes (now (self .entry))) ⌝ }
-    {
-        self.count
-    }
-
     // The code of trio `i`.
     pub fn code(&self, i: usize) -> Option<u16>
         ensures { λ r. ⌜ r ≡ cond (ltb i (length (codes (now (self .entry))))) (Some (getD (codes (now (self .entry))) i 0)) None ⌝ }

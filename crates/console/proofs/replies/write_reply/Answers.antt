@@ -35,8 +35,8 @@ returns-in-Continue-end-2 c =
     let k = c .in-Continue-end .end in
     let j = c .in-Continue-end-2 .end in
     let w =
-      no-written e b (c .pre) k b-1 (c .in-Continue-end .ensures tt .value) (c .put-in-Err .ensures .after)
-      j b-2 (c .in-Continue-end-2 .ensures tt .value ∙ ap (λ x. end-of k (decimal x) b-1) (c .number .ensures)) (c .put-decimal .ensures .after ∙ ap (λ x. after-write k (decimal x) b-1) (c .number .ensures))
-      (c .put-in-Err-2 .result) (c .put-in-Err-2 .last .buffer) (c .put-in-Err-2 .ensures .value) (c .put-in-Err-2 .ensures .after) in
+    no-written e b (c .pre) k b-1 (c .in-Continue-end .ensures tt .value) (c .put-in-Err .ensures .after)
+    j b-2 (c .in-Continue-end-2 .ensures tt .value ∙ ap (λ x. end-of k (decimal x) b-1) (c .number .ensures)) (c .put-decimal .ensures .after ∙ ap (λ x. after-write k (decimal x) b-1) (c .number .ensures))
+    (c .put-in-Err-2 .result) (c .put-in-Err-2 .last .buffer) (c .put-in-Err-2 .ensures .value) (c .put-in-Err-2 .ensures .after) in
     let some = ap refusal-of (c .in-Err .is) in
     rw some (record { value = w .0; after = w .1 })

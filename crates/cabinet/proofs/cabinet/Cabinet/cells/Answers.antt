@@ -11,12 +11,13 @@ use Rattle.network.specs.Networks.{module-count, trios, voter-count}
 use Rattle.network.specs.declared.Trio.{Trio}
 use Rattle.network.specs.declared.Trio.the-variants.{Voter}
 use Rattle.network.proofs.Keeps.{limits}
+use Rattle.network.proofs.Trios.{length-trios, trio-present}
 use Rattle.wiring.specs.declared.cell.Cell.{Cell}
 use Rattle.cabinet.specs.CellLists.{listed, shown-list}
 use Rattle.cabinet.specs.Cabinets.{network}
 use Rattle.cabinet.specs.declared.cell_list.CellList.{CellList}
 use Rattle.cabinet.proofs.CellsOf.{Around, shown-are}
-use Rattle.cabinet.proofs.Listing.{all-listed, cells-so-far, length-trios, no-more-cell, one-more-cell, starts-leads, trio-present}
+use Rattle.cabinet.proofs.Listing.{all-listed, cells-so-far, no-more-cell, one-more-cell, starts-leads}
 use Rattle.cabinet.proofs.cabinet.Cabinet.cells.Needs as need
 use Rattle.cabinet.proofs.cabinet.Cabinet.cells.Needs.{then-starts-at, else-starts-at}
 
@@ -44,10 +45,10 @@ loop-k-again c =
     let first = sym (starts-leads n t cell (l .insides) (l .few-voters) (l .few-modules) here around) ∙ starts in
     let P : CellList → Type 0 = λ x. (length (listed x) ≤ k + 1) × (shown-list (listed x) ≡ cells-so-far n (k + 1)) in
     elim (c .if-starts-at .came) [
-      then-starts-at w ↦
-        let added = w .push .ensures ∙ cond-true _ _ _ (lt-ltb (length (listed (c .loop-k .list))) 31 (omega (arith, c .loop-k .inv .0, more, l .few-voters, l .few-modules))) in
-        subst P (sym (w .list-is)) (omega (arith, ap length added, length-push (listed (c .loop-k .list)) cell, c .loop-k .inv .0), one-more-cell n k within (listed (c .loop-k .list)) _ cell (c .loop-k .inv .1) added same (first ∙ w .if-starts-at .taken))
-    | else-starts-at w ↦ subst P (sym (w .list-is)) (omega (arith, c .loop-k .inv .0), no-more-cell n k within (listed (c .loop-k .list)) (c .loop-k .inv .1) (first ∙ w .if-starts-at .left))
+      | then-starts-at w ↦
+          let added = w .push .ensures ∙ cond-true _ _ _ (lt-ltb (length (listed (c .loop-k .list))) 31 (omega (arith, c .loop-k .inv .0, more, l .few-voters, l .few-modules))) in
+          subst P (sym (w .list-is)) (omega (arith, ap length added, length-push (listed (c .loop-k .list)) cell, c .loop-k .inv .0), one-more-cell n k within (listed (c .loop-k .list)) _ cell (c .loop-k .inv .1) added same (first ∙ w .if-starts-at .taken))
+      | else-starts-at w ↦ subst P (sym (w .list-is)) (omega (arith, c .loop-k .inv .0), no-more-cell n k within (listed (c .loop-k .list)) (c .loop-k .inv .1) (first ∙ w .if-starts-at .left))
     ]
 
 pub returns : need.returns

@@ -3,8 +3,8 @@ use mathlib.Core.Path.{_≡_, sym, ap, _∙_}
 use Prim.Native.Nat.{_-_}
 use native.Mathlib.Omega.{arith}
 use Rattle.network.specs.declared.Trio.the-variants.{Module}
+use Rattle.network.proofs.Trios.{module-at, voter-at}
 use Rattle.cabinet.specs.Cabinets.{network}
-use Rattle.cabinet.proofs.Listing.{module-at, voter-at}
 use Rattle.cabinet.proofs.cabinet.Cabinet.trio_at.Needs as need
 
 pub returns-then-k-voters : need.returns-then-k-voters

@@ -2,8 +2,8 @@
 use mathlib.Core.Path.{_≡_, sym, _∙_}
 use native.Mathlib.Omega.{arith}
 use lib.ListN.{length}
+use Rattle.network.proofs.Trios.{place-end, place-hit, place-more}
 use Rattle.wiring.specs.CellSets.{holds}
-use Rattle.cabinet.proofs.Listing.{place-end, place-hit, place-more}
 use Rattle.cabinet.proofs.cabinet.cells.place_of.Needs as need
 
 pub loop-i-holds : need.loop-i-holds

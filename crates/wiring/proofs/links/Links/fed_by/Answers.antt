@@ -18,8 +18,8 @@ loop-v-again c =
     let ls = c .args .self .now in
     let P : TrioSet → Type 0 = λ s. (m : ℕ) → member s m ≡ fed-so-far ls (c .args .voters) (c .loop-v .v + 1) m in
     elim (c .if-contains .came) [
-      then-contains w ↦ subst P (sym (w .fed-is)) (fed-more ls (c .args .voters) (c .loop-v .fed) (c .loop-v .v) (c .loop-v .inv) (w .union-fed .result) (sym (c .contains .ensures) ∙ w .if-contains .taken) (w .union-fed .ensures))
-    | else-contains w ↦ subst P (sym (w .fed-is)) (fed-same ls (c .args .voters) (c .loop-v .fed) (c .loop-v .v) (c .loop-v .inv) (sym (c .contains .ensures) ∙ w .if-contains .left))
+      | then-contains w ↦ subst P (sym (w .fed-is)) (fed-more ls (c .args .voters) (c .loop-v .fed) (c .loop-v .v) (c .loop-v .inv) (w .union-fed .result) (sym (c .contains .ensures) ∙ w .if-contains .taken) (w .union-fed .ensures))
+      | else-contains w ↦ subst P (sym (w .fed-is)) (fed-same ls (c .args .voters) (c .loop-v .fed) (c .loop-v .v) (c .loop-v .inv) (sym (c .contains .ensures) ∙ w .if-contains .left))
     ]
 
 pub returns : need.returns

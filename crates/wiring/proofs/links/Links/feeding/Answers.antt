@@ -22,8 +22,8 @@ loop-v-again c =
     let now-met = sym (overlap-feeds ls (c .args .modules) (c .loop-v .v)) ∙ sym (c .meets .ensures) in
     let P : TrioSet → Type 0 = λ s. (v : ℕ) → member s v ≡ feeding-so-far ls (c .args .modules) (c .loop-v .v + 1) v in
     elim (c .if-meets .came) [
-      then-meets w ↦ subst P (sym (w .found-is)) (feeding-more ls (c .args .modules) (c .loop-v .found) (c .loop-v .v) (c .loop-v-test .taken) (c .loop-v .inv) (w .with-found .result) (now-met ∙ w .if-meets .taken) (w .with-found .ensures))
-    | else-meets w ↦ subst P (sym (w .found-is)) (feeding-same ls (c .args .modules) (c .loop-v .found) (c .loop-v .v) (c .loop-v-test .taken) (c .loop-v .inv) (now-met ∙ w .if-meets .left))
+      | then-meets w ↦ subst P (sym (w .found-is)) (feeding-more ls (c .args .modules) (c .loop-v .found) (c .loop-v .v) (c .loop-v-test .taken) (c .loop-v .inv) (w .with-found .result) (now-met ∙ w .if-meets .taken) (w .with-found .ensures))
+      | else-meets w ↦ subst P (sym (w .found-is)) (feeding-same ls (c .args .modules) (c .loop-v .found) (c .loop-v .v) (c .loop-v-test .taken) (c .loop-v .inv) (now-met ∙ w .if-meets .left))
     ]
 
 pub returns : need.returns

@@ -16,5 +16,5 @@ pub returns-else-voter-lt16 : need.returns-else-voter-lt16
 returns-else-voter-lt16 c =
     let ls = c .args .self .now in
     let none : feeds ls (c .args .voter) (c .args .module) ≡ false =
-      ⊎-elim (λ h. absurd (omega (arith, feeds-range ls (c .args .voter) (c .args .module) h .0))) (λ h. h) (cases-bool (feeds ls (c .args .voter) (c .args .module))) in
+    ⊎-elim (λ h. absurd (omega (arith, feeds-range ls (c .args .voter) (c .args .module) h .0))) (λ h. h) (cases-bool (feeds ls (c .args .voter) (c .args .module))) in
     le-ltb (c .args .voter) 16 (c .if-voter-lt16 .left) ∙ sym (stands-list ls (c .args .voter, c .args .module) ∙ none)

@@ -8,6 +8,6 @@ pub returns : need.returns
 unfolding feeds
 returns c =
     elim (c .if-voter-lt16 .came) [
-      then-voter-lt16 w ↦ list-taken-out (c .args .self) _ (c .args .voter) (c .args .module) (w .without .result) (w .if-voter-lt16 .taken) (w .rows-is) (w .without .ensures)
-    | else-voter-lt16 w ↦ list-taken-out-past (c .args .self) _ (c .args .voter) (c .args .module) (w .if-voter-lt16 .left) (w .rows-is)
+      | then-voter-lt16 w ↦ list-taken-out (c .args .self) _ (c .args .voter) (c .args .module) (w .without .result) (w .if-voter-lt16 .taken) (w .rows-is) (w .without .ensures)
+      | else-voter-lt16 w ↦ list-taken-out-past (c .args .self) _ (c .args .voter) (c .args .module) (w .if-voter-lt16 .left) (w .rows-is)
     ]
