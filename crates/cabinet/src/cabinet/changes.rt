@@ -88,10 +88,13 @@ impl Cabinet {
     {
         self.present(trio)?;
         match trio {
-            Trio::Voter(v) => self.voters.relabel(v, code),
-            Trio::Module(m) => self.modules.relabel(m, code),
+            Trio::Voter(v) => {
+                self.voters.relabel(v, code);
+            }
+            Trio::Module(m) => {
+                self.modules.relabel(m, code);
+            }
         }
-        ;
         Ok(())
     }
 }
