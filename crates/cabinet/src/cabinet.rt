@@ -11,7 +11,7 @@ mod changes;
 mod questions;
 
 // Up to 16 voter trios and 15 module trios, each with a part code, and the links between them.
-// Cells are found from the links that stand; nothing is kept of a link that was cut.
+// Cells are worked out from the present links, so a link that was cut leaves no trace.
 #[derive(Drop)]
 pub struct Cabinet {
     voters: TrioTable<16>,

@@ -26,7 +26,7 @@ abbrev pub if-last : List ℕ → ℕ → Option ℕ
 if-last [] n = Some n
 if-last (b ∷ bs) n = None
 
--- a number that is not too big for its place, with nothing after it
+-- a number within its limit, with nothing after it
 abbrev pub last-within : ℕ → Option (ℕ × List ℕ) → Option ℕ
 last-within most None = None
 last-within most (Some p) = cond (leb (p .0) most) (if-last (p .1) (p .0)) None
@@ -40,7 +40,7 @@ abbrev pub with-second : ℕ → Option ℕ → Option (ℕ × ℕ)
 with-second a None = None
 with-second a (Some b) = Some (a, b)
 
--- a first number that is not too big for its place, and the one number that the rest consists of
+-- a first number within its limit, and the one number that the rest consists of
 abbrev pub both-within : ℕ → Option (ℕ × List ℕ) → Option (ℕ × ℕ)
 both-within most None = None
 both-within most (Some p) = cond (leb (p .0) most) (with-second (p .0) (one-number most (p .1))) None

@@ -1,4 +1,4 @@
--- Cells: two trios are in one cell when a chain of links joins them.
+-- Cells: the trios that chains of links hold together.
 use Prim.Native.Nat.{ℕ, suc}
 use mathlib.Core.Bool.{Bool, true, false, cond, not, _&&_}
 use mathlib.Core.List.{List, [], _∷_, map}
@@ -23,7 +23,7 @@ edges n = map edge (n .links)
 abbrev pub together : Network → Trio → Trio → Bool
 together n t u = joined (edges n) t u
 
--- all voters come before all modules
+-- the order of trios: voters first
 abbrev pub precedes : Trio → Trio → Bool
 precedes (Voter v) (Voter w) = ltb v w
 precedes (Voter v) (Module m) = true

@@ -24,12 +24,12 @@ pub data Change : Type 0 where
   cut : ℕ → ℕ → Change
   change-part : Trio → ℕ → Change
 
--- the network has no such trio
+-- the trio is not there
 abbrev pub absent : Trio → Network → Check
 absent (Voter v) n = (not (has-voter n v), NoVoter)
 absent (Module m) n = (not (has-module n m), NoModule)
 
--- with the link its cell would hold too many voter trios
+-- the link would make a cell that is too wide
 abbrev pub too-wide : ℕ → ℕ → Network → Bool
 too-wide v m n = ltb widest (width (with-link v m n) (Voter v))
 

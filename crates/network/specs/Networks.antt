@@ -10,11 +10,12 @@ use Rattle.sets.specs.Lists.{all, any}
 use Rattle.network.specs.declared.Trio.{Trio}
 use Rattle.network.specs.declared.Trio.the-variants.{Voter, Module}
 
--- A link, voter trio first: the voter at each position feeds the module at that position.
+-- A link: the number of the voter trio, and of the module trio that it feeds, A to A, B to B and C to C.
 abbrev pub Link : Type 0
 Link = ℕ × ℕ
 
--- Part codes by number, voters and modules, and the links as a rising list, so that a network has one form.
+-- The part codes of the voter trios and of the module trios, each by number, and the links in order. Since the
+-- links are in order, a network can be written in one way only.
 pub record Network : Type 0 where
   pub voters : List ℕ
   pub modules : List ℕ
@@ -40,7 +41,7 @@ abbrev pub present : Network → Trio → Bool
 present n (Voter v) = has-voter n v
 present n (Module m) = has-module n m
 
--- the trios, all voters before all modules
+-- the trios, voters first
 abbrev pub trios : Network → List Trio
 trios n = map Voter (counting 0 (voter-count n)) ++ map Module (counting 0 (module-count n))
 
@@ -52,7 +53,7 @@ code-of n (Module m) = getD (n .modules) m 0
 abbrev pub same-link : Link → Link → Bool
 same-link k l = eqb (k .0) (l .0) && eqb (k .1) (l .1)
 
--- links rise by voter, then by module
+-- the order of links: by voter, and by module among those of one voter
 abbrev pub earlier : Link → Link → Bool
 earlier k l = ltb (k .0) (l .0) || (eqb (k .0) (l .0) && ltb (k .1) (l .1))
 

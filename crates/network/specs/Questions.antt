@@ -25,7 +25,7 @@ link-answer n v m = answered (first-due (absent (Voter v) n ∷ (absent (Module 
 abbrev pub cell-of-answer : Network → Trio → Result ℕ Refusal
 cell-of-answer n t = answered (first-due (absent t n ∷ [])) (cell-of n t)
 
--- no such cell
+-- the cell is not there
 abbrev pub no-cell : ℕ → Network → Check
 no-cell c n = (leb (cell-count n) c, NoCell)
 

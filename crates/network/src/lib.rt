@@ -15,25 +15,25 @@ pub enum Trio {
 // Why a call is refused.
 #[derive(Clone, Copy, PartialEq, Eq, Debug)]
 pub enum Refusal {
-    // sixteen voter trios are there already
+    // no room for another voter trio
     VotersFull,
-    // fifteen module trios are there already
+    // no room for another module trio
     ModulesFull,
-    // no such voter trio
+    // the voter trio is not there
     NoVoter,
-    // no such module trio
+    // the module trio is not there
     NoModule,
-    // the link stands already
+    // the link is there already
     LinkStands,
-    // no link to cut
+    // the link is not there
     NoLink,
-    // the cell would hold over 12 voter trios
+    // the link would make a cell of more than 12 voter trios
     CellTooWide,
-    // no such cell
+    // the cell is not there
     NoCell,
     // a buffer is too short
     BufferTooShort,
-    // a line of none of the forms, or a number too big for its place
+    // a line of no known form, or a number in it that is too large
     BadLine,
 }
 

@@ -61,7 +61,7 @@ impl Cabinet {
         Ok(cells[number])
     }
 
-    // The trio at place `k`, all voters before all modules.
+    // The trio at place `k`, voters first.
     fn trio_at(&self, k: usize) -> Trio
         ensures { λ r. ⌜ (k < voter-count (network (now (self .entry))) + module-count (network (now (self .entry))) → r ≡ getD (trios (network (now (self .entry)))) k (Voter 0)) ⌝ }
     {
