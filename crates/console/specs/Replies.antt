@@ -35,9 +35,11 @@ abbrev pub after-call : Option Request → Network → Network
 after-call None n = n
 after-call (Some call) n = network-after (change-of call) n
 
+-- the refusal that is due for a line, if any
 unfoldable pub line-refusal : List ℕ → Network → Option Refusal
 line-refusal line n = due-for (request line) n
 
+-- the network after a line
 unfoldable pub after-line : List ℕ → Network → Network
 after-line line n = after-call (request line) n
 

@@ -23,6 +23,7 @@ pub struct Console {
 }
 
 impl Console {
+    // A console with an empty cabinet.
     pub fn new() -> Console
         ensures { λ r. ⌜ network-in r ≡ empty ⌝ }
     {

@@ -1,4 +1,7 @@
 // The handset: a line of standard input at a time, with its reply on standard output before the next is read.
+ghost use mathlib.Core.Path.{_≡_};
+ghost use Rattle.console.specs.Consoles.{network-in};
+ghost use Rattle.console.specs.Replies.{after-line};
 use console::Console;
 use console::lines::LineBuffer;
 use std::error::AnyError;
@@ -10,7 +13,9 @@ use std::io::Write;
 const REPLY_ROOM: usize = 64;
 
 // Hands a line to the console, and writes the reply.
-fn answer(console: &mut Console, line: &[u8], out: &mut impl Write) -> Result<(), AnyError> {
+fn answer(console: &mut Console, line: &[u8], out: &mut impl Write) -> Result<(), AnyError>
+    ensures { λ _. ⌜ network-in (now (console .exit)) ≡ after-line (now (line .entry)) (network-in (now (console .entry))) ⌝ }
+{
     let mut reply = [0; REPLY_ROOM];
     match console.answer(line, &mut reply) {
         Ok(n) => out.write_all(&reply[0..n])?,
@@ -19,6 +24,7 @@ fn answer(console: &mut Console, line: &[u8], out: &mut impl Write) -> Result<()
     Ok(())
 }
 
+// Answers every line of the input.
 fn run(rt: &LibcRuntime) -> Result<(), AnyError> {
     let mut console = Console::new();
     let mut out = rt.stdout();

@@ -50,10 +50,11 @@ place test (x ∷ xs) = cond (test x) 0 (suc (place test xs))
 unfoldable pub cell-of : Network → Trio → ℕ
 cell-of n t = place (together n t) (cells n)
 
--- the voter trios, and the module trios, of the cell that t is in
+-- the voter trios of the cell that t is in
 unfoldable pub voters-with : Network → Trio → List ℕ
 voters-with n t = kept-by (λ v. together n t (Voter v)) (counting 0 (voter-count n))
 
+-- the module trios of that cell
 unfoldable pub modules-with : Network → Trio → List ℕ
 modules-with n t = kept-by (λ m. together n t (Module m)) (counting 0 (module-count n))
 

@@ -50,14 +50,16 @@ changed (cut v m) n = without-link v m n
 changed (change-part (Voter v) code) n = record { voters = set (n .voters) v code; modules = n .modules; links = n .links }
 changed (change-part (Module m) code) n = record { voters = n .voters; modules = set (n .modules) m code; links = n .links }
 
+-- the refusal that is due, if any
 unfoldable pub refusal : Change → Network → Option Refusal
 refusal change n = first-due (checks change n)
 
--- the network after the call: a refused one leaves it as it was
+-- what is there after a call: what it does, or where it is refused what was there before
 abbrev pub unless : {X : Type 0} → Option Refusal → X → X → X
 unless None done kept = done
 unless (Some e) done kept = kept
 
+-- the network after the call
 unfoldable pub network-after : Change → Network → Network
 network-after change n = unless (refusal change n) (changed change n) n
 

@@ -20,6 +20,7 @@ widest = 12
 abbrev pub inside : Network → Link → Bool
 inside n l = has-voter n (l .0) && has-module n (l .1)
 
+-- no cell is too wide
 abbrev pub narrow : Network → Bool
 narrow n = all (λ t. leb (width n t) widest) (trios n)
 
