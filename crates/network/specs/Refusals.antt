@@ -29,7 +29,7 @@ number e = told e .0
 abbrev pub Check : Type 0
 Check = Bool × Refusal
 
--- Checks run as listed: the first whose test holds decides.
+-- Of the checks in a list, the first whose test holds decides.
 abbrev pub first-due : List Check → Option Refusal
 first-due [] = None
 first-due (c ∷ cs) = cond (c .0) (Some (c .1)) (first-due cs)
