@@ -1,0 +1,5 @@
+pub mod Bounded
+pub mod Counts
+pub mod Prints
+pub mod Remainders
+pub mod Durations

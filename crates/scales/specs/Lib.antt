@@ -1,0 +1,4 @@
+pub mod Bounded
+pub mod Counts
+pub mod Remainders
+pub mod Durations
