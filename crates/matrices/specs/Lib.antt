@@ -1,0 +1,3 @@
+pub mod FaultMatrices
+pub mod Polynomials
+pub mod Values
