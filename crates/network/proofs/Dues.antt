@@ -12,8 +12,8 @@ use Rattle.std.specs.declared.result.Result.{Result}
 use Rattle.std.specs.declared.result.Result.the-variants.{Ok, Err}
 use Rattle.network.specs.Changes.{Change, changed, network-after, refusal, unless}
 use Rattle.network.specs.Networks.{Network}
-use Rattle.network.specs.Refusals.{Check, answered, first-due}
-use Rattle.network.specs.declared.Refusal.{Refusal}
+use Rattle.refusals.specs.Refusals.{Check, answered, first-due}
+use Rattle.refusals.specs.declared.Refusal.{Refusal}
 
 pub hit : (k : Check) (ks : List Check) → k .0 ≡ true → first-due (k ∷ ks) ≡ Some (k .1)
 hit k ks h = cond-true (k .0) (Some (k .1)) (first-due ks) h

@@ -18,8 +18,8 @@ use Rattle.network.specs.Chains.{Chain, none, more, Edge, ends-at, joined}
 use Rattle.network.specs.Limits.{inside, narrow, most-voters, most-modules, widest, within-limits}
 use Rattle.network.specs.Networks.{Link, Network, has-module, has-voter, linked, module-count, present, put, rising, same-link, stands, taken-out, trios, voter-count, with-link, without-link}
 use Rattle.network.specs.Changes.{Change, add-voter, add-module, link, cut, change-part, changed, checks, Limits-kept, network-after, refusal, too-wide, unless}
-use Rattle.network.specs.Refusals.{Check, first-due}
-use Rattle.network.specs.declared.Refusal.{Refusal}
+use Rattle.refusals.specs.Refusals.{Check, first-due}
+use Rattle.refusals.specs.declared.Refusal.{Refusal}
 use Rattle.network.specs.declared.Trio.{Trio}
 use Rattle.network.specs.declared.Trio.the-variants.{Voter, Module}
 use Rattle.network.proofs.Chains.{chain-from-joined, joined-back, joined-beside, joined-from-chain, joined-itself, joined-on}

@@ -10,9 +10,9 @@ use Rattle.std.specs.declared.option.Option.the-variants.{Some, None}
 use Rattle.network.specs.Cells.{width}
 use Rattle.network.specs.Limits.{most-voters, most-modules, widest, within-limits}
 use Rattle.network.specs.Networks.{Network, voter-count, module-count, has-voter, has-module, linked, with-link, without-link}
-use Rattle.network.specs.Refusals.{Check, first-due}
-use Rattle.network.specs.declared.Refusal.{Refusal}
-use Rattle.network.specs.declared.Refusal.the-variants.{VotersFull, ModulesFull, NoVoter, NoModule, LinkStands, NoLink, CellTooWide}
+use Rattle.refusals.specs.Refusals.{Check, first-due}
+use Rattle.refusals.specs.declared.Refusal.{Refusal}
+use Rattle.refusals.specs.declared.Refusal.the-variants.{VotersFull, ModulesFull, NoVoter, NoModule, LinkStands, NoLink, CellTooWide}
 use Rattle.network.specs.declared.Trio.{Trio}
 use Rattle.network.specs.declared.Trio.the-variants.{Voter, Module}
 

@@ -4,5 +4,5 @@ pub mod Changes
 pub mod Limits
 pub mod Networks
 pub mod Partition
+pub mod Patterns
 pub mod Questions
-pub mod Refusals

@@ -1,60 +1,14 @@
-// What the rules of a cabinet speak of: its trios, and the refusals with their numbers.
+// What the rules of a cabinet speak of: its trios, and theorems about them.
 ghost use mathlib.Core.Path.{_≡_};
 ghost use Rattle.network.specs.Chains.{Chains-agree};
 ghost use Rattle.network.specs.Changes.{Limits-kept};
 ghost use Rattle.network.specs.Partition.{Cells-are-numbered};
-ghost use Rattle.network.specs.Refusals.{number};
 
 // A trio of a cabinet: three copies of a voter, or of a module, by its number among its kind.
 #[derive(Clone, Copy, PartialEq, Eq, Debug)]
 pub enum Trio {
     Voter(usize),
     Module(usize),
-}
-
-// Why a call is refused.
-#[derive(Clone, Copy, PartialEq, Eq, Debug)]
-pub enum Refusal {
-    // no room for another voter trio
-    VotersFull,
-    // no room for another module trio
-    ModulesFull,
-    // the voter trio is not there
-    NoVoter,
-    // the module trio is not there
-    NoModule,
-    // the link is there already
-    LinkStands,
-    // the link is not there
-    NoLink,
-    // the link would make a cell of more than 12 voter trios
-    CellTooWide,
-    // the cell is not there
-    NoCell,
-    // a buffer is too short
-    BufferTooShort,
-    // a line of no known form, or a number in it that is too large
-    BadLine,
-}
-
-impl Refusal {
-    // The number that a refusal is reported by.
-    pub fn number(self) -> u8
-        ensures { λ r. ⌜ r ≡ number self ⌝ }
-    {
-        match self {
-            Refusal::VotersFull => 1,
-            Refusal::ModulesFull => 2,
-            Refusal::NoVoter => 3,
-            Refusal::NoModule => 4,
-            Refusal::LinkStands => 5,
-            Refusal::NoLink => 6,
-            Refusal::CellTooWide => 7,
-            Refusal::NoCell => 8,
-            Refusal::BufferTooShort => 26,
-            Refusal::BadLine => 30,
-        }
-    }
 }
 
 // Two trios are joined by a chain of links exactly where the test `joined` says so.
