@@ -1,0 +1,12 @@
+pub mod Agrees
+pub mod Cell
+pub mod Cells
+pub mod Choices
+pub mod Halves
+pub mod Heads
+pub mod Lists
+pub mod Marks
+pub mod Plain
+pub mod Split
+pub mod Tied
+pub mod Ways
