@@ -2,19 +2,21 @@
 use mathlib.Core.Path.{_≡_, refl, sym, ap, _∙_}
 use mathlib.Core.Bool.{Bool, true, false, not, cond, _&&_, _||_}
 use mathlib.Core.List.{List, _∷_}
-use Prim.Native.Nat.{ℕ, zero, suc, _+_, _*_, _/_, _%_, _^_, _<_}
+use Prim.Native.Nat.{ℕ, zero, suc, _+_, _-_, _*_, _/_, _%_, _^_, _<_}
 use native.Mathlib.Nat.{div-one, zero-div}
 use native.Mathlib.Numerals.{add-one, one-add}
 use native.Mathlib.Omega.{arith}
 use lib.Arith.{lt-one}
 use lib.Bits.{bitAnd, bitOr, bitXor, shifted-half, shifted-even}
 use lib.Count.{ones, ones-step, trailingZeros, under}
-use lib.Dec.{eqb, eqb·zero-suc, eqb·suc-zero, eqb·suc-suc}
+use lib.Dec.{eqb, ltb, eqb·zero-suc, eqb·suc-zero, eqb·suc-suc}
 use lib.ListN.{length}
+use lib.Pow.{pow-pos}
 use Rattle.std.specs.declared.option.Option.the-variants.{Some}
 use Rattle.std.specs.Iters.{counting}
 use Rattle.std.specs.shelf.Lists.{kept-by}
 use Rattle.std.proofs.shelf.Bits.{shr-shr, shr-below, mod-below, and-shr, or-shr, xor-shr, and-mod, or-mod, xor-mod}
+use Rattle.std.proofs.shelf.Tests.{le-ltb, lt-ltb}
 use Rattle.std.proofs.shelf.Ways.{tells}
 use Rattle.sets.specs.Lists.{any, first-of}
 
@@ -74,6 +76,18 @@ bit-pow zero zero = refl
 bit-pow zero (suc k) = bit-step 1 k ∙ bit-none k ∙ sym (eqb·suc-zero k)
 bit-pow (suc i) zero = bit-zero (2 ^ suc i) ∙ ap (λ x. eqb x 1) (even-pow i) ∙ sym (eqb·zero-suc i)
 bit-pow (suc i) (suc k) = bit-step (2 ^ suc i) k ∙ ap (λ n. bit n k) (half-pow i) ∙ bit-pow i k ∙ sym (eqb·suc-suc k i)
+
+-- the bits of one less than a power of two are 1 below it
+half-ones : (n : ℕ) → (2 ^ suc n - 1) / 2 ≡ 2 ^ n - 1
+half-ones n = let e : 2 ^ suc n ≡ 2 * 2 ^ n = omega arith in omega (arith, e)
+
+odd-ones : (n : ℕ) → (2 ^ suc n - 1) % 2 ≡ 1
+odd-ones n = let e : 2 ^ suc n ≡ 2 * 2 ^ n = omega arith in let p : 0 < 2 ^ n = pow-pos n in omega (arith, e, p)
+
+pub bit-ones : (n k : ℕ) → bit (2 ^ n - 1) k ≡ ltb k n
+bit-ones zero k = bit-none k ∙ sym (le-ltb k 0 (omega arith))
+bit-ones (suc n) zero = bit-zero (2 ^ suc n - 1) ∙ ap (λ x. eqb x 1) (odd-ones n) ∙ sym (lt-ltb 0 (suc n) (omega arith))
+bit-ones (suc n) (suc k) = bit-step (2 ^ suc n - 1) k ∙ ap (λ x. bit x k) (half-ones n) ∙ bit-ones n k ∙ grind (arith, tells)
 
 half-below : (n m : ℕ) → n < 2 ^ suc m → n / 2 < 2 ^ m
 half-below n m h = shr-below n m 1 (rw add-one h)

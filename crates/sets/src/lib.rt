@@ -61,6 +61,37 @@ impl TrioSet {
         }
     }
 
+    // The numbers in both sets.
+    pub fn intersection(self, other: TrioSet) -> TrioSet
+        ensures { λ r. ⌜ ((k : ℕ) → member r k ≡ (member self k && member other k)) ⌝ }
+    {
+        TrioSet {
+            bits: self.bits & other.bits,
+        }
+    }
+
+    // The numbers that are in this set only.
+    pub fn difference(self, other: TrioSet) -> TrioSet
+        ensures { λ r. ⌜ ((k : ℕ) → member r k ≡ (member self k && not (member other k))) ⌝ }
+    {
+        TrioSet {
+            bits: self.bits ^ (self.bits & other.bits),
+        }
+    }
+
+    // The members that are less than `n`.
+    pub fn below(self, n: usize) -> TrioSet
+        ensures { λ r. ⌜ ((k : ℕ) → member r k ≡ (member self k && ltb k n)) ⌝ }
+    {
+        if n < 16 {
+            TrioSet {
+                bits: self.bits & ((1 << n) - 1),
+            }
+        } else {
+            self
+        }
+    }
+
     // Whether some number is in both sets.
     pub fn meets(self, other: TrioSet) -> bool
         ensures { λ r. ⌜ r ≡ overlap self other ⌝ }

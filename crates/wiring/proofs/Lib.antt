@@ -3,3 +3,4 @@ pub mod Codes
 pub mod Grown
 pub mod RowEdits
 pub mod Rows
+pub mod Restricted

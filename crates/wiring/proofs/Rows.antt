@@ -22,7 +22,7 @@ use Rattle.wiring.specs.Wires.{feeds, link-list, no-row, places}
 use Rattle.wiring.specs.declared.links.Links.{Links}
 
 -- a link stands among those that a test keeps if it stood before and passes
-stands-kept : (test : Link → Bool) (l : Link) (ls : List Link) → stands (kept-by test ls) l ≡ (stands ls l && test l)
+pub stands-kept : (test : Link → Bool) (l : Link) (ls : List Link) → stands (kept-by test ls) l ≡ (stands ls l && test l)
 stands-kept test l [] = refl
 stands-kept test l (j ∷ js) = step (stands-kept test l js) (cases-bool (same-link l j)) (cases-bool (test j))
   where

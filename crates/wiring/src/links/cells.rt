@@ -38,7 +38,7 @@ impl Links {
     }
 
     // The modules that some voter of the set feeds.
-    fn fed_by(&self, voters: TrioSet) -> TrioSet
+    pub fn fed_by(&self, voters: TrioSet) -> TrioSet
         ensures { λ r. ⌜ ((m : ℕ) → member r m ≡ fed-by-some (now (self .entry)) voters m) ⌝ }
     {
         let mut fed = TrioSet::empty();

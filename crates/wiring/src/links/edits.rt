@@ -4,6 +4,8 @@ ghost use mathlib.Core.Bool.{cond, _&&_};
 ghost use mathlib.Core.List.{[]};
 ghost use lib.Dec.{ltb};
 ghost use Rattle.network.specs.Networks.{put, stands, taken-out};
+ghost use Rattle.sets.specs.Sets.{member};
+ghost use Rattle.std.specs.shelf.Lists.{kept-by};
 ghost use Rattle.wiring.specs.Wires.{link-list};
 use super::Links;
 use sets::TrioSet;
@@ -32,6 +34,19 @@ impl Links {
         let mut rows = self.rows;
         if voter < 16 {
             rows[voter] = rows[voter].with(module);
+        }
+        Links { rows }
+    }
+
+    // The links of some voters only.
+    pub fn only_from(&self, voters: TrioSet) -> Links
+        ensures { λ r. ⌜ link-list r ≡ kept-by (λ l. member voters (l .0)) (link-list (now (self .entry))) ⌝ }
+    {
+        let mut rows = self.rows;
+        for v in 0..16 {
+            if !voters.contains(v) {
+                rows[v] = TrioSet::empty();
+            }
         }
         Links { rows }
     }
