@@ -1,0 +1,4 @@
+pub mod Chosen
+pub mod Gathered
+pub mod Grouped
+pub mod Weighed
