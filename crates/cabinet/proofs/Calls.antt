@@ -12,8 +12,8 @@ use Rattle.std.specs.declared.option.Option.the-variants.{Some, None}
 use Rattle.network.specs.Changes.{Change, absent, add-voter, add-module, link, cut, change-part, changed, network-after, refusal}
 use Rattle.network.specs.Limits.{within-limits}
 use Rattle.network.specs.Networks.{Link, Network}
-use Rattle.network.specs.declared.Refusal.{Refusal}
-use Rattle.network.specs.declared.Refusal.the-variants.{VotersFull, ModulesFull, NoVoter, NoModule, LinkStands, NoLink, CellTooWide}
+use Rattle.refusals.specs.declared.Refusal.{Refusal}
+use Rattle.refusals.specs.declared.Refusal.the-variants.{VotersFull, ModulesFull, NoVoter, NoModule, LinkStands, NoLink, CellTooWide}
 use Rattle.network.specs.declared.Trio.the-variants.{Voter, Module}
 use Rattle.network.proofs.Dues.{after-change, after-refusal, hit, miss}
 use Rattle.network.proofs.Keeps.{limits-kept}

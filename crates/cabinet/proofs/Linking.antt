@@ -13,7 +13,7 @@ use Rattle.network.specs.Changes.{absent, change-part, changed, cut, link, netw
 use Rattle.network.specs.Chains.{joined}
 use Rattle.network.specs.Limits.{within-limits}
 use Rattle.network.specs.Networks.{Link, Network, has-module, has-voter, linked, module-count, put, taken-out, voter-count, with-link, without-link}
-use Rattle.network.specs.declared.Refusal.the-variants.{NoVoter, NoModule, LinkStands, NoLink, CellTooWide}
+use Rattle.refusals.specs.declared.Refusal.the-variants.{NoVoter, NoModule, LinkStands, NoLink, CellTooWide}
 use Rattle.network.specs.declared.Trio.{Trio}
 use Rattle.network.specs.declared.Trio.the-variants.{Voter, Module}
 use Rattle.network.proofs.Dues.{after-change, hit, miss}

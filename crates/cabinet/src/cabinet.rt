@@ -9,6 +9,7 @@ use wiring::TrioTable;
 mod cells;
 mod changes;
 mod questions;
+mod totals;
 
 // Up to 16 voter trios and 15 module trios, each with a part code, and the links between them.
 // Cells are worked out from the present links, so a link that was cut leaves no trace.

@@ -12,8 +12,8 @@ ghost use Rattle.cabinet.specs.CellLists.{listed, shown-list};
 ghost use Rattle.cabinet.specs.Cabinets.{network};
 use super::Cabinet;
 use crate::cell_list::CellList;
-use network::Refusal;
 use network::Trio;
+use refusals::Refusal;
 use wiring::Cell;
 
 impl Cabinet {

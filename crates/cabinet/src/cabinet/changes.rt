@@ -2,11 +2,11 @@
 ghost use mathlib.Core.Path.{_≡_};
 ghost use Rattle.network.specs.Changes.{add-voter, add-module, link, cut, change-part, network-after, refusal};
 ghost use Rattle.network.specs.Networks.{empty, voter-count, module-count};
-ghost use Rattle.network.specs.Refusals.{answered};
+ghost use Rattle.refusals.specs.Refusals.{answered};
 ghost use Rattle.cabinet.specs.Cabinets.{network};
 use super::Cabinet;
-use network::Refusal;
 use network::Trio;
+use refusals::Refusal;
 use wiring::Links;
 use wiring::TrioTable;
 

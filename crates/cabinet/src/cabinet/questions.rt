@@ -4,11 +4,11 @@ ghost use mathlib.Core.List.{[], _∷_};
 ghost use Rattle.network.specs.Changes.{absent};
 ghost use Rattle.network.specs.Networks.{voter-count, module-count};
 ghost use Rattle.network.specs.Questions.{code-answer, link-answer};
-ghost use Rattle.network.specs.Refusals.{answered, first-due};
+ghost use Rattle.refusals.specs.Refusals.{answered, first-due};
 ghost use Rattle.cabinet.specs.Cabinets.{network};
 use super::Cabinet;
-use network::Refusal;
 use network::Trio;
+use refusals::Refusal;
 
 impl Cabinet {
     // How many voter trios there are.

@@ -2,7 +2,7 @@
 use mathlib.Core.Path.{sym, ap, _∙_}
 use Rattle.std.specs.declared.result.Result.the-variants.{Ok}
 use Rattle.network.specs.Changes.{add-module, refusal}
-use Rattle.network.specs.declared.Refusal.the-variants.{ModulesFull}
+use Rattle.refusals.specs.declared.Refusal.the-variants.{ModulesFull}
 use Rattle.network.proofs.Dues.{answers-refusal, answers-value}
 use Rattle.cabinet.specs.Cabinets.{network}
 use Rattle.cabinet.proofs.Calls.{added-module, free-module, full-modules, still-within}

@@ -7,7 +7,7 @@ use Rattle.std.proofs.shelf.Tests.{le-leb, lt-leb}
 use Rattle.std.specs.declared.result.Result.the-variants.{Ok}
 use Rattle.network.specs.Cells.{Members, cell-count}
 use Rattle.network.specs.Questions.{no-cell}
-use Rattle.network.specs.declared.Refusal.the-variants.{NoCell}
+use Rattle.refusals.specs.declared.Refusal.the-variants.{NoCell}
 use Rattle.network.proofs.Dues.{answers-refusal, answers-value, hit, miss}
 use Rattle.cabinet.specs.CellLists.{listed, shown-list}
 use Rattle.cabinet.specs.Cabinets.{network}

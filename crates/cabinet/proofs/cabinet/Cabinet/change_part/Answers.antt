@@ -6,7 +6,7 @@ use Rattle.std.specs.declared.option.Option.the-variants.{Some, None}
 use Rattle.std.specs.declared.result.Result.the-variants.{Err, Ok}
 use Rattle.network.specs.Changes.{absent, change-part, network-after, refusal}
 use Rattle.network.specs.Networks.{Network}
-use Rattle.network.specs.Refusals.{answered}
+use Rattle.refusals.specs.Refusals.{answered}
 use Rattle.network.specs.declared.Trio.{Trio}
 use Rattle.network.specs.declared.Trio.the-variants.{Voter, Module}
 use Rattle.network.proofs.Dues.{after-refusal, answers-refusal, answers-value, hit, miss, passed, stopped}

@@ -5,7 +5,7 @@ use Rattle.std.proofs.shelf.Results.{err-from-errBy}
 use Rattle.std.specs.declared.option.Option.the-variants.{None}
 use Rattle.std.specs.declared.result.Result.the-variants.{Err}
 use Rattle.network.specs.Changes.{absent, link, network-after, refusal}
-use Rattle.network.specs.declared.Refusal.the-variants.{NoVoter, NoModule, LinkStands, CellTooWide}
+use Rattle.refusals.specs.declared.Refusal.the-variants.{NoVoter, NoModule, LinkStands, CellTooWide}
 use Rattle.network.specs.declared.Trio.the-variants.{Voter, Module}
 use Rattle.network.proofs.Dues.{after-refusal, answers-refusal, answers-value, passed, stopped}
 use Rattle.wiring.specs.Wires.{link-list}
