@@ -11,9 +11,9 @@ use Rattle.std.proofs.shelf.Tests.{cases-lt}
 use Rattle.std.specs.declared.option.Option.{Option}
 use Rattle.std.specs.declared.option.Option.the-variants.{Some, None}
 use Rattle.text.specs.Fields.{field}
-use Rattle.console.specs.Requests.{largest-code, largest-number, longest-line, one-number, two-numbers, given-code, given-pair, named-call, request}
+use Rattle.console.specs.Requests.{largest-code, largest-number, longest-line, one-number, two-numbers, given-nothing, given-number, given-pair, named-call, request}
 use Rattle.console.specs.declared.line.Request.{Request}
-use Rattle.console.specs.declared.line.Request.the-variants.{AddVoter, AddModule, Link, Cut}
+use Rattle.console.specs.declared.line.Request.the-variants.{AddVoter, AddModule, Link, Cut, CountPatterns, LongestRepair}
 use Rattle.console.proofs.Calls.{request-none, request-long}
 use Rattle.console.proofs.Numbers.{one-number-none, one-number-some, one-number-big, one-number-more, two-numbers-none, two-numbers-big, two-numbers-second}
 
@@ -64,11 +64,17 @@ Within (AddVoter code) = code ≤ largest-code
 Within (AddModule code) = code ≤ largest-code
 Within (Link voter unit) = (voter ≤ largest-number) × (unit ≤ largest-number)
 Within (Cut voter unit) = (voter ≤ largest-number) × (unit ≤ largest-number)
+Within CountPatterns = Unit {0}
+Within (LongestRepair hours) = hours ≤ largest-number
 
 module _ (call : Request) where
-  code-within : (make : ℕ → Request) (o : Option ℕ) → ((n : ℕ) → o ≡ Some n → Within (make n)) → given-code make o ≡ Some call → Within call
-  code-within make None bound made = absurd (never _ made refl)
-  code-within make (Some n) bound made = let same : make n ≡ call = cc in subst Within same (bound n refl)
+  nothing-within : (alone : Request) (rest : List ℕ) → Within alone → given-nothing alone rest ≡ Some call → Within call
+  nothing-within alone [] bound made = let same : alone ≡ call = cc in subst Within same bound
+  nothing-within alone (b ∷ bs) bound made = absurd (never _ made refl)
+
+  number-within : (make : ℕ → Request) (o : Option ℕ) → ((n : ℕ) → o ≡ Some n → Within (make n)) → given-number make o ≡ Some call → Within call
+  number-within make None bound made = absurd (never _ made refl)
+  number-within make (Some n) bound made = let same : make n ≡ call = cc in subst Within same (bound n refl)
 
   pair-within : (make : ℕ → ℕ → Request) (o : Option (ℕ × ℕ)) → ((p : ℕ × ℕ) → o ≡ Some p → Within (make (p .0) (p .1))) → given-pair make o ≡ Some call → Within call
   pair-within make None bound made = absurd (never _ made refl)
@@ -81,10 +87,12 @@ module _ (call : Request) where
   pub named-call-within : (letter : ℕ) (rest : List ℕ) → named-call letter rest ≡ Some call → Within call
   unfolding named-call
   named-call-within letter rest =
-      either-within (eqb letter 86) _ _ (code-within AddVoter _ (one-number-most largest-code rest))
-      (either-within (eqb letter 77) _ _ (code-within AddModule _ (one-number-most largest-code rest))
+      either-within (eqb letter 86) _ _ (number-within AddVoter _ (one-number-most largest-code rest))
+      (either-within (eqb letter 77) _ _ (number-within AddModule _ (one-number-most largest-code rest))
       (either-within (eqb letter 76) _ _ (pair-within Link _ (two-numbers-most largest-number rest))
-      (either-within (eqb letter 88) _ _ (pair-within Cut _ (two-numbers-most largest-number rest)) (λ none. absurd (never _ none refl)))))
+      (either-within (eqb letter 88) _ _ (pair-within Cut _ (two-numbers-most largest-number rest))
+      (either-within (eqb letter 67) _ _ (nothing-within CountPatterns rest tt)
+      (either-within (eqb letter 72) _ _ (number-within LongestRepair _ (one-number-most largest-number rest)) (λ none. absurd (never _ none refl)))))))
 
   pub request-within : (line : List ℕ) → request line ≡ Some call → Within call
   unfolding request

@@ -7,16 +7,16 @@ use lib.ListN.{length, getD, take, drop}
 use Rattle.std.proofs.shelf.Lists.{take-rest}
 use Rattle.std.proofs.shelf.Tests.{le-leb, lt-leb, ne-eqb, cond-true, cond-false}
 use Rattle.std.specs.declared.option.Option.the-variants.{Some, None}
-use Rattle.console.specs.Requests.{largest-code, largest-number, one-number, two-numbers, given-code, given-pair, named-call, request}
-use Rattle.console.specs.declared.line.Request.the-variants.{AddVoter, AddModule, Link, Cut}
+use Rattle.console.specs.Requests.{largest-code, largest-number, one-number, two-numbers, given-number, given-pair, named-call, request}
+use Rattle.console.specs.declared.line.Request.the-variants.{AddVoter, AddModule, Link, Cut, CountPatterns, LongestRepair}
 
 -- the numbers that a letter takes, up to the largest that the code allows
 module _ (letter : ℕ) (rest : List ℕ) (most : ℕ) where
-  pub names-V : letter ≡ 86 → most ≡ largest-code → named-call letter rest ≡ given-code AddVoter (one-number most rest)
+  pub names-V : letter ≡ 86 → most ≡ largest-code → named-call letter rest ≡ given-number AddVoter (one-number most rest)
   unfolding named-call
   names-V this limit = rw (this, limit) refl
 
-  pub names-M : letter ≡ 77 → most ≡ largest-code → named-call letter rest ≡ given-code AddModule (one-number most rest)
+  pub names-M : letter ≡ 77 → most ≡ largest-code → named-call letter rest ≡ given-number AddModule (one-number most rest)
   unfolding named-call
   names-M this limit = rw (this, limit) refl
 
@@ -28,11 +28,27 @@ module _ (letter : ℕ) (rest : List ℕ) (most : ℕ) where
   unfolding named-call
   names-X this limit = rw (this, limit) refl
 
+  pub names-H : letter ≡ 72 → most ≡ largest-number → named-call letter rest ≡ given-number LongestRepair (one-number most rest)
+  unfolding named-call
+  names-H this limit = rw (this, limit) refl
+
+-- C takes no number
+module _ (letter : ℕ) where
+  pub names-C : (rest : List ℕ) → letter ≡ 67 → length rest ≡ 0 → named-call letter rest ≡ Some CountPatterns
+  unfolding named-call
+  names-C [] this none = rw this refl
+  names-C (b ∷ bs) this none = absurd (omega arith)
+
+  pub names-C-more : (rest : List ℕ) → letter ≡ 67 → 1 ≤ length rest → named-call letter rest ≡ None
+  unfolding named-call
+  names-C-more [] this more = absurd (omega arith)
+  names-C-more (b ∷ bs) this more = rw this refl
+
 -- no other byte names a call
-pub names-none : (letter : ℕ) (rest : List ℕ) → (letter ≡ 86 → ⊥) → (letter ≡ 77 → ⊥) → (letter ≡ 76 → ⊥) → (letter ≡ 88 → ⊥) → named-call letter rest ≡ None
+pub names-none : (letter : ℕ) (rest : List ℕ) → (letter ≡ 86 → ⊥) → (letter ≡ 77 → ⊥) → (letter ≡ 76 → ⊥) → (letter ≡ 88 → ⊥) → (letter ≡ 67 → ⊥) → (letter ≡ 72 → ⊥) → named-call letter rest ≡ None
 unfolding named-call
-names-none letter rest not-V not-M not-L not-X =
-    rw (ne-eqb letter 86 not-V, ne-eqb letter 77 not-M, ne-eqb letter 76 not-L, ne-eqb letter 88 not-X) refl
+names-none letter rest not-V not-M not-L not-X not-C not-H =
+    rw (ne-eqb letter 86 not-V, ne-eqb letter 77 not-M, ne-eqb letter 76 not-L, ne-eqb letter 88 not-X, ne-eqb letter 67 not-C, ne-eqb letter 72 not-H) refl
 
 pub request-none : (line : List ℕ) → length line < 1 → request line ≡ None
 unfolding request

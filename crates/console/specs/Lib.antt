@@ -3,3 +3,4 @@ pub mod Held
 pub mod Replies
 pub mod Requests
 pub mod Splits
+pub mod Totals

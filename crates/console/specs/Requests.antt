@@ -8,7 +8,7 @@ use Rattle.std.specs.declared.option.Option.{Option}
 use Rattle.std.specs.declared.option.Option.the-variants.{Some, None}
 use Rattle.text.specs.Fields.{field}
 use Rattle.console.specs.declared.line.Request.{Request}
-use Rattle.console.specs.declared.line.Request.the-variants.{AddVoter, AddModule, Link, Cut}
+use Rattle.console.specs.declared.line.Request.the-variants.{AddVoter, AddModule, Link, Cut, CountPatterns, LongestRepair}
 
 -- bytes in a line, without its newline
 abbrev pub longest-line : ℕ
@@ -49,10 +49,15 @@ both-within most (Some p) = cond (leb (p .0) most) (with-second (p .0) (one-numb
 unfoldable pub two-numbers : ℕ → List ℕ → Option (ℕ × ℕ)
 two-numbers most text = both-within most (field text)
 
--- the call that takes a code, if there is one
-abbrev pub given-code : (ℕ → Request) → Option ℕ → Option Request
-given-code make None = None
-given-code make (Some n) = Some (make n)
+-- the call that takes no number, if nothing follows its letter
+abbrev pub given-nothing : Request → List ℕ → Option Request
+given-nothing call [] = Some call
+given-nothing call (b ∷ bs) = None
+
+-- the call that takes one number, if there is one
+abbrev pub given-number : (ℕ → Request) → Option ℕ → Option Request
+given-number make None = None
+given-number make (Some n) = Some (make n)
 
 -- the call that takes two numbers, if there are two
 abbrev pub given-pair : (ℕ → ℕ → Request) → Option (ℕ × ℕ) → Option Request
@@ -63,13 +68,17 @@ given-pair make (Some p) = Some (make (p .0) (p .1))
 unfoldable pub named-call : ℕ → List ℕ → Option Request
 named-call letter rest =
     -- V
-    cond (eqb letter 86) (given-code AddVoter (one-number largest-code rest))
+    cond (eqb letter 86) (given-number AddVoter (one-number largest-code rest))
     -- M
-    (cond (eqb letter 77) (given-code AddModule (one-number largest-code rest))
+    (cond (eqb letter 77) (given-number AddModule (one-number largest-code rest))
     -- L
     (cond (eqb letter 76) (given-pair Link (two-numbers largest-number rest))
     -- X
-    (cond (eqb letter 88) (given-pair Cut (two-numbers largest-number rest)) None)))
+    (cond (eqb letter 88) (given-pair Cut (two-numbers largest-number rest))
+    -- C
+    (cond (eqb letter 67) (given-nothing CountPatterns rest)
+    -- H
+    (cond (eqb letter 72) (given-number LongestRepair (one-number largest-number rest)) None)))))
 
 -- the call that a line makes, if any
 unfoldable pub request : List ℕ → Option Request

@@ -14,6 +14,10 @@ pub enum Request {
     Link(usize, usize),
     // that link cut
     Cut(usize, usize),
+    // how many fault patterns are tolerated
+    CountPatterns,
+    // the longest repair, at so many hours for each fault
+    LongestRepair(u32),
 }
 
 const LONGEST_LINE: usize = 40;
@@ -62,6 +66,11 @@ fn named_call(letter: char, rest: &[u8]) -> Option<Request>
             let (voter, module) = two_numbers(rest, LARGEST_NUMBER)?;
             Some(Request::Cut(voter as usize, module as usize))
         }
+        'C' => match rest {
+            [] => Some(Request::CountPatterns),
+            _ => None,
+        },
+        'H' => Some(Request::LongestRepair(one_number(rest, LARGEST_NUMBER)? as u32)),
         _ => None,
     }
 }
