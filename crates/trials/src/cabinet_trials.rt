@@ -1,46 +1,22 @@
 // Cabinets are wired, cut and asked.
-use cabinet::Cabinet;
-use network::Refusal;
-use network::RefusalDebug;
-use network::RefusalPartialEq;
+use crate::wirings::MESH;
+use crate::wirings::is_set;
+use crate::wirings::wired;
 use network::Trio;
+use refusals::Refusal;
+use refusals::RefusalDebug;
+use refusals::RefusalPartialEq;
 use std::test::*;
 use wiring::Cell;
 
-// A cabinet with so many trios of each kind and these links.
-fn wired(voters: u16, modules: u16, links: &[(usize, usize)]) -> Result<Cabinet, Refusal> {
-    let mut cabinet = Cabinet::new();
-    for v in 0..voters {
-        cabinet.add_voter(v)?;
-    }
-    for m in 0..modules {
-        cabinet.add_module(m)?;
-    }
-    for link in links {
-        cabinet.link(link.0, link.1)?;
-    }
-    Ok(cabinet)
-}
-
 // Whether the cell has just these voter trios and module trios.
 fn is_cell(cell: Cell, voters: &[usize], modules: &[usize]) -> bool {
-    for v in voters {
-        if !cell.holds(Trio::Voter(*v)) {
-            return false;
-        }
-    }
-    for m in modules {
-        if !cell.holds(Trio::Module(*m)) {
-            return false;
-        }
-    }
-    cell.voters.len() == voters.len() && cell.modules.len() == modules.len()
+    is_set(cell.voters, voters) && is_set(cell.modules, modules)
 }
 
 #[test]
 fn cells_join_and_part() -> Result<(), Fail> {
-    let links = [(0, 0), (1, 0), (1, 1), (2, 1), (2, 2), (3, 1), (3, 2)];
-    let mut cabinet = wired(4, 3, &links)?;
+    let mut cabinet = wired(4, 3, &MESH)?;
     check_eq(cabinet.cell_count(), 1)?;
     check(is_cell(cabinet.cell(0)?, &[0, 1, 2, 3], &[0, 1, 2]))?;
     cabinet.cut(1, 1)?;
