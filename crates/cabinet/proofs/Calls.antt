@@ -1,19 +1,18 @@
 -- What the parts of a cabinet stand for after each call.
 use mathlib.Core.Path.{_≡_, refl, sym, ap, _∙_, subst}
-use mathlib.Core.Bool.{Bool, true, false, cond, not}
+use mathlib.Core.Bool.{Bool, true, false, cond}
 use mathlib.Core.List.{List, [], _∷_, _++_}
-use mathlib.Core.Logic.{_⊎_, inl, inr, ⊎-elim}
-use Prim.Native.Nat.{ℕ, _≤_, _<_}
-use native.Mathlib.Omega.{arith}
-use lib.Dec.{leb, ltb}
+use mathlib.Core.Logic.{_⊎_, ⊎-elim}
+use Prim.Native.Nat.{ℕ}
+use lib.Dec.{ltb}
 use lib.ListN.{length, set}
 use Rattle.std.proofs.shelf.Tests.{cases-bool, cond-false, cond-true, le-leb, lt-leb, ltb-false, ltb-true}
 use Rattle.std.specs.declared.option.Option.the-variants.{Some, None}
-use Rattle.network.specs.Changes.{Change, absent, add-voter, add-module, link, cut, change-part, changed, network-after, refusal}
+use Rattle.network.specs.Changes.{Change, absent, add-voter, add-module, change-part, changed, network-after, refusal}
 use Rattle.network.specs.Limits.{within-limits}
-use Rattle.network.specs.Networks.{Link, Network}
+use Rattle.network.specs.Networks.{Network}
 use Rattle.refusals.specs.declared.Refusal.{Refusal}
-use Rattle.refusals.specs.declared.Refusal.the-variants.{VotersFull, ModulesFull, NoVoter, NoModule, LinkStands, NoLink, CellTooWide}
+use Rattle.refusals.specs.declared.Refusal.the-variants.{VotersFull, ModulesFull}
 use Rattle.network.specs.declared.Trio.the-variants.{Voter, Module}
 use Rattle.network.proofs.Dues.{after-change, after-refusal, hit, miss}
 use Rattle.network.proofs.Keeps.{limits-kept}

@@ -1,15 +1,14 @@
 -- A cell found from links, by its sets, is the cell of the network by its lists.
-use mathlib.Core.Path.{_≡_, refl, sym, ap, ap₂, _∙_, subst}
-use mathlib.Core.Bool.{Bool, true, false, _&&_}
-use mathlib.Core.Logic.{_⊎_, inl, inr, ⊎-elim}
+use mathlib.Core.Path.{_≡_, sym, ap₂, _∙_, subst}
+use mathlib.Core.Bool.{Bool, true, _&&_}
+use mathlib.Core.Logic.{_⊎_, ⊎-elim}
 use Prim.Native.Nat.{ℕ, _≤_, _<_}
 use native.Mathlib.Omega.{arith}
 use lib.Dec.{ltb}
 use Rattle.std.specs.Iters.{counting}
 use Rattle.std.specs.shelf.Lists.{kept-by}
-use Rattle.std.proofs.shelf.Tests.{and-parts, and-right, and-from, both-ways, cases-bool, lt-ltb, ltb-true}
+use Rattle.std.proofs.shelf.Tests.{and-parts, and-right, and-from, cases-bool, lt-ltb, ltb-true}
 use Rattle.network.specs.Cells.{edges, members-with, modules-with, together, voters-with}
-use Rattle.network.specs.Chains.{joined}
 use Rattle.network.specs.Limits.{inside}
 use Rattle.network.specs.Networks.{Network, module-count, present, voter-count}
 use Rattle.network.specs.declared.Trio.{Trio}

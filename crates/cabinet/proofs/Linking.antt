@@ -1,23 +1,23 @@
 -- When links are refused, and what linking and cutting leave.
-use mathlib.Core.Path.{_≡_, refl, sym, ap, _∙_, subst}
-use mathlib.Core.Bool.{Bool, true, false, cond, not, _&&_}
-use mathlib.Core.List.{List, [], _∷_}
+use mathlib.Core.Path.{_≡_, ap, _∙_}
+use mathlib.Core.Bool.{true, false, cond, _&&_}
+use mathlib.Core.List.{List}
 use Prim.Native.Nat.{ℕ, _≤_, _<_}
 use native.Mathlib.Omega.{arith}
-use lib.Dec.{leb, ltb}
+use lib.Dec.{ltb}
 use lib.ListN.{length}
-use Rattle.std.proofs.shelf.Tests.{and-from, cond-true, le-ltb, lt-ltb, ltb-true, not-false, not-from-false, not-from-true}
+use Rattle.std.proofs.shelf.Tests.{and-from, cond-true, le-ltb, lt-ltb, ltb-true, not-false}
 use Rattle.std.specs.declared.option.Option.the-variants.{Some, None}
-use Rattle.network.specs.Cells.{edge, edges, width}
-use Rattle.network.specs.Changes.{absent, change-part, changed, cut, link, network-after, refusal, too-wide}
+use Rattle.network.specs.Cells.{edge, width}
+use Rattle.network.specs.Changes.{absent, cut, link, network-after, refusal, too-wide}
 use Rattle.network.specs.Chains.{joined}
 use Rattle.network.specs.Limits.{within-limits}
-use Rattle.network.specs.Networks.{Link, Network, has-module, has-voter, linked, module-count, put, taken-out, voter-count, with-link, without-link}
+use Rattle.network.specs.Networks.{Link, Network, has-module, has-voter, linked, module-count, put, taken-out, voter-count, with-link}
 use Rattle.refusals.specs.declared.Refusal.the-variants.{NoVoter, NoModule, LinkStands, NoLink, CellTooWide}
 use Rattle.network.specs.declared.Trio.{Trio}
 use Rattle.network.specs.declared.Trio.the-variants.{Voter, Module}
-use Rattle.network.proofs.Dues.{after-change, hit, miss}
-use Rattle.network.proofs.Keeps.{Limits, limits}
+use Rattle.network.proofs.Dues.{after-change}
+use Rattle.network.proofs.Keeps.{limits}
 use Rattle.network.proofs.Links.{all-put}
 use Rattle.sets.specs.Sets.{members}
 use Rattle.wiring.specs.CellSets.{holds, in-range}

@@ -3,7 +3,7 @@ use mathlib.Core.Path.{_≡_, refl, sym, ap, _∙_, subst}
 use mathlib.Core.Bool.{Bool, true, not, _&&_}
 use mathlib.Core.List.{List, [], _∷_, map}
 use mathlib.Core.Logic.{⊎-elim}
-use Prim.Native.Nat.{ℕ, _+_, _≤_, _<_}
+use Prim.Native.Nat.{ℕ, _+_, _<_}
 use native.Mathlib.Omega.{arith}
 use lib.Dec.{eqb}
 use lib.ListN.{drop, length, length-drop, length-take, take}
@@ -27,7 +27,7 @@ use Rattle.network.proofs.Dues.{hit}
 use Rattle.network.specs.declared.Trio.{Trio}
 use Rattle.network.specs.declared.Trio.the-variants.{Voter, Module}
 use Rattle.refusals.specs.Refusals.{answered, first-due}
-use Rattle.sets.specs.Sets.{member, members}
+use Rattle.sets.specs.Sets.{members}
 use Rattle.sets.specs.declared.TrioSet.{TrioSet}
 use Rattle.sets.proofs.Kept.{any-below-true, any-kept}
 use Rattle.weighing.specs.Entries.{first-members, read, read-all, shown-below}

@@ -1,5 +1,5 @@
 -- What the entries of a matrix stand for, as loops add, multiply and fill them.
-use Prim.Native.Nat.{ℕ, zero, suc, _+_, _-_, _*_, _/_, _%_, _^_, _≤_, _<_}
+use Prim.Native.Nat.{ℕ, suc, _+_, _-_, _*_, _/_, _%_, _^_, _≤_, _<_}
 use native.Mathlib.Nat.{mod-eq-of-lt}
 use native.Mathlib.Omega.{arith}
 use mathlib.Core.Path.{_≡_, refl, sym, ap, ap₂, _∙_}
@@ -11,8 +11,8 @@ use lib.ListN.{length, getD, set, replicate}
 use mir.Syntax.{w64}
 use mir.Val.{Fits}
 use borrow.Author.Count.{below-more}
-use Rattle.algebra.specs.Laws.{Kind}
-use Rattle.algebra.specs.Sums.{sum, sum-on}
+use Rattle.algebra.specs.Sums.{sum}
+use Rattle.algebra.proofs.Steps.{sum-next}
 use Rattle.matrices.specs.FaultMatrices.{fault-matrices, entry-at, matrix, powers, product-entry, row-product}
 use Rattle.matrices.specs.Values.{residue, entry-in, matrix-of}
 use Rattle.matrices.proofs.FaultMatrices.{entry-matrix, matrix-same, nothing-entries, plus-entries, times-entries, powers-entries}
@@ -35,13 +35,6 @@ pub residue-number : (n : ℕ) → Fits w64 n → residue n .number ≡ n
 unfolding residue
 residue-number n fits = mod-eq-of-lt (fits .fits)
 
--- one summand more
-sum-on-more : (k : Kind) (f : ℕ → k .Value) (acc : k .Value) (a n : ℕ) → sum-on k f acc (counting a (suc n)) ≡ k .plus (sum-on k f acc (counting a n)) (f (a + n))
-sum-on-more k f acc a zero = ap (λ b. k .plus acc (f b)) (omega arith)
-sum-on-more k f acc a (suc n) =
-    let last : a + 1 + n ≡ a + suc n = omega arith in
-    sum-on-more k f (k .plus acc (f a)) (a + 1) n ∙ ap (λ b. k .plus (sum-on k f (k .plus acc (f a)) (counting (a + 1) n)) (f b)) last
-
 -- the total of the first n summands
 abbrev pub Summed : (ℕ → counts .Value) → ℕ → ℕ → Type 0
 Summed f n total = residue total ≡ sum counts f (counting 0 n)
@@ -52,13 +45,7 @@ summed-none f = refl
 
 pub summed-more : (f : ℕ → counts .Value) (n total x : ℕ) → Summed f n total → residue x ≡ f n → Summed f (n + 1) ((total + x) % 2 ^ 64)
 summed-more f n total x so-far same =
-    let here : 0 + n ≡ n = omega arith in
-    let next : suc n ≡ n + 1 = omega arith in
-    residue-plus total x
-    ∙ ap₂ (counts .plus) so-far same
-    ∙ ap (λ m. counts .plus (sum counts f (counting 0 n)) (f m)) (sym here)
-    ∙ sym (sum-on-more counts f (counts .nothing) 0 n)
-    ∙ ap (λ m. sum counts f (counting 0 m)) next
+    residue-plus total x ∙ ap₂ (counts .plus) so-far same ∙ sym (sum-next counts f n)
 
 -- an entry that is read
 pub entry-read : (ns : List ℕ) (i j : ℕ) → i < 17 → j < 16 → residue (getD ns (16 * i + j) 0) ≡ entry-at (matrix-of ns) i j

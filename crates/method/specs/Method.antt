@@ -7,7 +7,7 @@ use Rattle.algebra.specs.Laws.{Kind}
 use Rattle.algebra.specs.Sums.{product, sum}
 use Rattle.network.specs.Cells.{Members, all-cells}
 use Rattle.network.specs.Networks.{Link, Network, voter-count}
-use Rattle.network.specs.Patterns.{Position, A, B, C, State, whole, at, Weights}
+use Rattle.network.specs.Patterns.{Position, A, B, C, whole, at, Weights}
 use Rattle.network.specs.Questions.{weights-mismatch}
 use Rattle.refusals.specs.Refusals.{answered, first-due}
 use Rattle.refusals.specs.declared.Refusal.{Refusal}

@@ -1,6 +1,6 @@
 -- The test `joined` says of any two trios whether a chain joins them.
 use mathlib.Core.Path.{_≡_, refl, sym, ap, _∙_, subst}
-use mathlib.Core.Bool.{Bool, true, false, _&&_, _||_}
+use mathlib.Core.Bool.{true, false, _&&_, _||_}
 use mathlib.Core.List.{List, [], _∷_}
 use mathlib.Core.Logic.{_⊎_, inl, inr, ⊎-elim}
 use Rattle.std.proofs.shelf.Tests.{or-cases, or-left, or-right, and-parts, and-from, both-ways, cases-bool, eqb-true, eq-eqb, false≢true}

@@ -1,18 +1,16 @@
 -- Chains stay among the trios that the network has.
-use mathlib.Core.Path.{_≡_, refl, sym, ap, _∙_, subst}
-use mathlib.Core.Bool.{Bool, true, false, cond, _&&_, _||_}
-use mathlib.Core.List.{List, [], _∷_, _++_, map}
+use mathlib.Core.Path.{_≡_, refl, sym, _∙_, subst}
+use mathlib.Core.Bool.{Bool, true, false, _&&_}
+use mathlib.Core.List.{List, [], _∷_, map}
 use mathlib.Core.Logic.{_⊎_, inl, inr, ⊎-elim}
-use Prim.Native.Nat.{ℕ, _≤_, _<_}
 use native.Mathlib.Omega.{arith}
-use lib.Dec.{leb, ltb}
 use Rattle.std.specs.Iters.{counting}
-use Rattle.std.proofs.shelf.Tests.{or-cases, or-left, or-right, and-parts, and-from, false≢true, leb-true, ltb-true, lt-ltb}
+use Rattle.std.proofs.shelf.Tests.{or-cases, or-left, or-right, and-parts, and-from, false≢true, ltb-true, lt-ltb}
 use Rattle.sets.specs.Lists.{all, any}
 use Rattle.network.specs.Cells.{edge, edges}
-use Rattle.network.specs.Chains.{Chain, none, more, Edge, ends-at, joined, same-trio}
+use Rattle.network.specs.Chains.{Chain, none, more, ends-at, same-trio}
 use Rattle.network.specs.Limits.{inside}
-use Rattle.network.specs.Networks.{Link, Network, has-module, has-voter, module-count, present, same-link, stands, trios, voter-count}
+use Rattle.network.specs.Networks.{Link, Network, module-count, present, same-link, stands, trios, voter-count}
 use Rattle.network.specs.declared.Trio.{Trio}
 use Rattle.network.specs.declared.Trio.the-variants.{Voter, Module}
 use Rattle.network.proofs.Chains.{same-is, same-itself}

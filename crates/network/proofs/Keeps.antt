@@ -1,29 +1,29 @@
 -- Every change that is not refused keeps the limits.
 use mathlib.Core.Path.{_≡_, refl, sym, ap, _∙_, subst}
-use mathlib.Core.Bool.{Bool, true, false, cond, not, _&&_, _||_}
+use mathlib.Core.Bool.{Bool, true, false, cond, not}
 use mathlib.Core.List.{List, [], _∷_, _++_, map}
 use mathlib.Core.Logic.{_⊎_, inl, inr, ⊎-elim}
-use Prim.Native.Nat.{ℕ, _+_, _≤_, _<_}
+use Prim.Native.Nat.{ℕ, _+_, _≤_}
 use native.Mathlib.Omega.{arith}
 use lib.Dec.{leb, ltb}
 use lib.ListN.{length, length-append, length-set, set}
 use Rattle.std.specs.Iters.{counting}
 use Rattle.std.specs.shelf.Lists.{kept-by}
-use Rattle.std.proofs.shelf.Tests.{or-cases, or-left, or-right, and-parts, and-from, both-ways, cases-bool, false≢true, not-from-false, not-true, not-false, leb-true, le-leb, leb-false, ltb-true, lt-ltb, ltb-false}
+use Rattle.std.proofs.shelf.Tests.{or-cases, and-parts, and-from, both-ways, cases-bool, not-from-false, not-true, not-false, leb-true, le-leb, leb-false, ltb-true, lt-ltb, ltb-false}
 use Rattle.std.specs.declared.option.Option.{Option}
 use Rattle.std.specs.declared.option.Option.the-variants.{Some, None}
-use Rattle.sets.specs.Lists.{all, any}
+use Rattle.sets.specs.Lists.{all}
 use Rattle.network.specs.Cells.{edge, edges, voters-with, width}
-use Rattle.network.specs.Chains.{Chain, none, more, Edge, ends-at, joined}
+use Rattle.network.specs.Chains.{Chain, none, more, joined}
 use Rattle.network.specs.Limits.{inside, narrow, most-voters, most-modules, widest, within-limits}
-use Rattle.network.specs.Networks.{Link, Network, has-module, has-voter, linked, module-count, present, put, rising, same-link, stands, taken-out, trios, voter-count, with-link, without-link}
+use Rattle.network.specs.Networks.{Link, Network, has-module, has-voter, linked, module-count, present, put, rising, same-link, stands, voter-count, with-link, without-link}
 use Rattle.network.specs.Changes.{Change, add-voter, add-module, link, cut, change-part, changed, checks, Limits-kept, network-after, refusal, too-wide, unless}
 use Rattle.refusals.specs.Refusals.{Check, first-due}
 use Rattle.refusals.specs.declared.Refusal.{Refusal}
 use Rattle.network.specs.declared.Trio.{Trio}
 use Rattle.network.specs.declared.Trio.the-variants.{Voter, Module}
 use Rattle.network.proofs.Chains.{chain-from-joined, joined-back, joined-beside, joined-from-chain, joined-itself, joined-on}
-use Rattle.network.proofs.Inside.{all-trios, chain-present, each-trio, link-step, stands-passes, step-link}
+use Rattle.network.proofs.Inside.{all-trios, chain-present, each-trio, link-step, step-link}
 use Rattle.network.proofs.Links.{all-kept, all-put, rising-put, rising-taken-out, same-link-is, stands-put, stands-taken-out}
 use Rattle.network.proofs.Lists.{kept-counting-more}
 use Rattle.sets.proofs.Kept.{kept-more, kept-none}

@@ -3,7 +3,7 @@ use mathlib.Core.Path.{_≡_, refl, sym, ap, _∙_}
 use mathlib.Core.Bool.{Bool, true, false, not, _&&_, _||_}
 use mathlib.Core.List.{List, [], _∷_}
 use mathlib.Core.Logic.{_⊎_, inl, inr, ⊎-elim}
-use Rattle.std.proofs.shelf.Tests.{and-from, and-parts, and-right, both-ways, cases-bool, not-from-false, not-true}
+use Rattle.std.proofs.shelf.Tests.{and-from, both-ways, cases-bool, not-from-false, not-true}
 use Rattle.sets.specs.Lists.{all, any}
 use Rattle.network.specs.Cells.{leads, precedes, together}
 use Rattle.network.specs.Networks.{Network, present, trios}

@@ -5,11 +5,10 @@ use mathlib.Core.List.{List, [], _∷_}
 use mathlib.Core.Logic.{_⊎_, inl, inr, ⊎-elim}
 use Prim.Native.Nat.{ℕ}
 use native.Mathlib.Omega.{arith}
-use lib.Dec.{eqb, ltb, leb}
 use Rattle.std.specs.shelf.Lists.{kept-by}
-use Rattle.std.proofs.shelf.Tests.{or-cases, or-left, or-right, or-from, and-parts, and-from, eqb-true, eq-eqb, false≢true, both-ways, cases-bool, cond-both}
+use Rattle.std.proofs.shelf.Tests.{or-cases, or-left, or-from, and-parts, and-from, eqb-true, eq-eqb, false≢true, both-ways, cases-bool, cond-both}
 use Rattle.std.proofs.shelf.Ways.{tells}
-use Rattle.sets.specs.Lists.{all, any}
+use Rattle.sets.specs.Lists.{all}
 use Rattle.network.specs.Networks.{Link, earlier, put, rising, same-link, stands, taken-out}
 
 pub same-link-itself : (l : Link) → same-link l l ≡ true

@@ -7,7 +7,7 @@ use Rattle.network.specs.Cells.{cell-count, cell-of, cells, edges}
 use Rattle.network.specs.Chains.{Chain}
 use Rattle.network.specs.Networks.{Network, present}
 use Rattle.network.specs.declared.Trio.{Trio}
-use Rattle.network.specs.declared.Trio.the-variants.{Voter, Module}
+use Rattle.network.specs.declared.Trio.the-variants.{Voter}
 
 pub record Numbered (n : Network) : Type 0 where
   -- each trio is in a cell

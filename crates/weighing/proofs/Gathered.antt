@@ -1,5 +1,5 @@
--- Sums and products over growing lists of numbers, one step at a time.
-use mathlib.Core.Path.{_≡_, refl, sym, ap, _∙_}
+-- Products over growing sets of numbers, one step at a time.
+use mathlib.Core.Path.{_≡_, sym, ap, _∙_}
 use mathlib.Core.Bool.{Bool, true, false, cond}
 use mathlib.Core.List.{List, [], _∷_, _++_}
 use Prim.Native.Nat.{ℕ, _+_, _<_}
@@ -7,34 +7,21 @@ use native.Mathlib.Omega.{arith}
 use lib.ListN.{length, getD}
 use Rattle.std.specs.Iters.{counting}
 use Rattle.std.specs.shelf.Lists.{kept-by}
-use Rattle.std.proofs.shelf.Elements.{kept-by-append}
 use Rattle.std.proofs.shelf.Lists.{getD-map}
-use Rattle.std.proofs.shelf.Tests.{cond-false, cond-true}
 use Rattle.algebra.specs.Laws.{Kind}
-use Rattle.algebra.specs.Sums.{product, product-on, sum, sum-on}
+use Rattle.algebra.specs.Sums.{product}
+use Rattle.algebra.proofs.Steps.{product-append}
 use Rattle.network.specs.Patterns.{State}
-use Rattle.sets.proofs.Kept.{counting-split}
+use Rattle.network.proofs.Lists.{kept-counting-more}
 use Rattle.sets.specs.Sets.{member}
 use Rattle.sets.specs.declared.TrioSet.{TrioSet}
-use Rattle.weighing.specs.Entries.{first-members, read, read-all, share, share-at}
+use Rattle.weighing.specs.Entries.{first-members, read, share, share-at}
 use Rattle.weighing.specs.declared.weights.Role.{Role}
 use Rattle.weighing.specs.declared.weights.Weights.{Weights}
 
-pub counting-next : (n : ℕ) → counting 0 (n + 1) ≡ counting 0 n ++ (n ∷ [])
-counting-next n = let e : 0 + n ≡ n = omega arith in counting-split 0 n 1 ∙ ap (λ x. counting 0 n ++ counting x 1) e
-
 -- the numbers below n + 1 that pass
 pub kept-next : (test : ℕ → Bool) (n : ℕ) → kept-by test (counting 0 (n + 1)) ≡ kept-by test (counting 0 n) ++ cond (test n) (n ∷ []) []
-kept-next test n = ap (kept-by test) (counting-next n) ∙ kept-by-append test (counting 0 n) (n ∷ [])
-
-module _ (k : Kind) {X : Type 0} (f : X → k .Value) where
-  pub product-append : (acc : k .Value) (xs ys : List X) → product-on k f acc (xs ++ ys) ≡ product-on k f (product-on k f acc xs) ys
-  product-append acc [] ys = refl
-  product-append acc (x ∷ xs) ys = product-append (k .times acc (f x)) xs ys
-
-  pub sum-append : (acc : k .Value) (xs ys : List X) → sum-on k f acc (xs ++ ys) ≡ sum-on k f (sum-on k f acc xs) ys
-  sum-append acc [] ys = refl
-  sum-append acc (x ∷ xs) ys = sum-append (k .plus acc (f x)) xs ys
+kept-next test n = let e : 0 + n ≡ n = omega arith in kept-counting-more test 0 n ∙ ap (λ x. kept-by test (counting 0 n) ++ cond (test x) (x ∷ []) []) e
 
 module _ (k : Kind) (f : ℕ → k .Value) where
   -- the product over those below n that pass
@@ -48,9 +35,6 @@ module _ (k : Kind) (f : ℕ → k .Value) where
   pub product-without : (test : ℕ → Bool) (n : ℕ) → test n ≡ false → product-below test (n + 1) ≡ product-below test n
   product-without test n h =
       ap (product k f) (kept-next test n ∙ ap (λ b. kept-by test (counting 0 n) ++ cond b (n ∷ []) []) h) ∙ product-append k f (k .unit) (kept-by test (counting 0 n)) []
-
-  pub sum-next : (n : ℕ) → sum k f (counting 0 (n + 1)) ≡ k .plus (sum k f (counting 0 n)) (f n)
-  sum-next n = ap (sum k f) (counting-next n) ∙ sum-append k f (k .nothing) (counting 0 n) (n ∷ [])
 
 -- what the entries of a set add in a state
 module _ (k : Kind) {W : Type 0} (value : W → k .Value) (role : Role) (ws : List (Weights W)) (set : TrioSet) (s : State) where

@@ -1,17 +1,14 @@
 -- The groups of a combination, found one after the other.
 use mathlib.Core.Path.{_≡_, refl, sym, ap, _∙_, subst}
-use mathlib.Core.Bool.{Bool, true, false, cond, not, _&&_, _||_}
-use mathlib.Core.List.{List, [], _∷_, map}
-use mathlib.Core.Logic.{_⊎_, inl, inr, ⊎-elim}
-use Prim.Native.Nat.{ℕ, _+_, _≤_, _<_}
+use mathlib.Core.Bool.{Bool, true, false, not, _&&_}
+use mathlib.Core.List.{List, map}
+use mathlib.Core.Logic.{_⊎_, ⊎-elim}
+use Prim.Native.Nat.{ℕ, _+_, _<_}
 use native.Mathlib.Omega.{arith}
 use lib.Dec.{eqb, ltb}
 use Rattle.std.specs.Iters.{counting}
 use Rattle.std.specs.shelf.Lists.{kept-by}
-use Rattle.std.proofs.shelf.Tests.{and-from, and-parts, and-right, both-ways, cases-bool, cases-eq, cases-lt, eq-eqb, eqb-true, lt-ltb, ltb-true, ne-eqb, not-true, not-false}
-use Rattle.std.proofs.shelf.Ways.{tells}
-use Rattle.algebra.specs.Laws.{Kind}
-use Rattle.algebra.specs.Sums.{product}
+use Rattle.std.proofs.shelf.Tests.{and-from, and-parts, and-right, both-ways, cases-bool, cases-eq, eq-eqb, eqb-true, lt-ltb, ltb-true, not-true}
 use Rattle.method.specs.Groups.{among, group, heads, left-out, links-of, tied, unfed}
 use Rattle.method.proofs.Lists.{kept-twice, same-test}
 use Rattle.network.specs.Cells.{Members, edge}
@@ -20,7 +17,7 @@ use Rattle.network.specs.Networks.{Link, stands}
 use Rattle.network.specs.declared.Trio.{Trio}
 use Rattle.network.specs.declared.Trio.the-variants.{Voter, Module}
 use Rattle.network.proofs.Chains.{chain-from-joined, joined-on}
-use Rattle.network.proofs.Inside.{Ends, step-link}
+use Rattle.network.proofs.Inside.{step-link}
 use Rattle.sets.specs.Lists.{any}
 use Rattle.sets.specs.Sets.{member, members}
 use Rattle.sets.specs.declared.TrioSet.{TrioSet}
@@ -31,7 +28,6 @@ use Rattle.wiring.specs.Wires.{edge-list, fed-by-some, feeds, link-list}
 use Rattle.wiring.specs.declared.cell.Cell.{Cell}
 use Rattle.wiring.specs.declared.links.Links.{Links}
 use Rattle.wiring.proofs.Rows.{stands-kept, stands-list}
-use Rattle.weighing.proofs.Gathered.{product-below, product-with, product-without}
 
 pub among-member : (s : TrioSet) (v : ℕ) → among (members s) v ≡ member s v
 unfolding members

@@ -15,6 +15,7 @@ use Rattle.std.proofs.shelf.Tests.{and-parts, cases-bool, cases-lt, lt-ltb, ltb
 use Rattle.std.specs.shelf.Lists.{kept-by}
 use Rattle.algebra.specs.Laws.{Kind}
 use Rattle.algebra.specs.Sums.{product, sum}
+use Rattle.algebra.proofs.Steps.{product-append, sum-next}
 use Rattle.method.specs.Groups.{combination, group, heads, left-out, unfed}
 use Rattle.method.specs.Method.{cell-weight, combination-weight, group-weight}
 use Rattle.network.specs.Cells.{Members}
@@ -31,7 +32,7 @@ use Rattle.weighing.specs.Entries.{Reaches, first-members, share-at, shown-bel
 use Rattle.weighing.specs.declared.weights.Role.the-variants.{Source, Place}
 use Rattle.weighing.specs.declared.weights.Weights.{Weights}
 use Rattle.weighing.proofs.Chosen.{kept-agree}
-use Rattle.weighing.proofs.Gathered.{product-append, product-below, product-with, product-without, sum-next}
+use Rattle.weighing.proofs.Gathered.{product-below, product-with, product-without}
 use Rattle.weighing.proofs.Grouped.{head, heads-are, members-left, members-unfed}
 
 -- enough entries reach all members

@@ -1,22 +1,18 @@
 -- A set of trios that grows no more along the links, and holds only what chains join to its start, is the cell.
-use mathlib.Core.Path.{_≡_, refl, sym, ap, _∙_, subst}
-use mathlib.Core.Bool.{Bool, true, false, _&&_, _||_}
-use mathlib.Core.List.{map}
+use mathlib.Core.Path.{_≡_, refl, sym, _∙_, subst}
+use mathlib.Core.Bool.{true, _&&_, _||_}
 use mathlib.Core.Logic.{_⊎_, inl, inr, ⊎-elim}
-use Prim.Native.Nat.{ℕ, _+_, _≤_, _<_}
+use Prim.Native.Nat.{ℕ, _+_, _≤_}
 use native.Mathlib.Omega.{arith}
 use lib.ListN.{length}
-use Rattle.std.proofs.shelf.Tests.{and-from, and-parts, and-right, both-ways, cases-bool, lt-ltb, or-cases, or-left, or-right}
-use Rattle.network.specs.Cells.{edge}
+use Rattle.std.proofs.shelf.Tests.{and-from, and-parts, both-ways, cases-bool, lt-ltb, or-cases, or-left, or-right}
 use Rattle.network.specs.Chains.{Chain, none, more, ends-at, joined, same-trio}
-use Rattle.network.specs.Networks.{Link, stands}
 use Rattle.network.specs.declared.Trio.{Trio}
 use Rattle.network.specs.declared.Trio.the-variants.{Voter, Module}
 use Rattle.network.proofs.Chains.{chain-from-joined, joined-beside, joined-itself, joined-on, same-is, same-itself}
-use Rattle.network.proofs.Inside.{Ends, link-step, step-link}
+use Rattle.network.proofs.Inside.{link-step, step-link}
 use Rattle.sets.specs.Lists.{any}
 use Rattle.sets.specs.Sets.{member, members}
-use Rattle.sets.specs.declared.TrioSet.{TrioSet}
 use Rattle.sets.proofs.Kept.{any-below-from, any-below-true}
 use Rattle.sets.proofs.Members.{full-subset, len-bound, member-below, subset-len}
 use Rattle.wiring.specs.CellSets.{holds, in-range}

@@ -1,20 +1,19 @@
 -- Growing a set of trios along the links until nothing is added gives the cell.
-use mathlib.Core.Path.{_≡_, refl, sym, ap, _∙_, subst}
+use mathlib.Core.Path.{_≡_, refl, sym, ap, _∙_}
 use mathlib.Core.Bool.{Bool, true, false, _&&_, _||_}
-use mathlib.Core.List.{List}
-use mathlib.Core.Logic.{_⊎_, inl, inr, ⊎-elim}
-use Prim.Native.Nat.{ℕ, _+_, _≤_, _<_}
+use mathlib.Core.Logic.{_⊎_, ⊎-elim}
+use Prim.Native.Nat.{ℕ, _+_, _<_}
 use native.Mathlib.Omega.{arith}
 use lib.Dec.{eqb, ltb}
 use lib.ListN.{getD}
 use Rattle.std.specs.Iters.{counting}
-use Rattle.std.proofs.shelf.Tests.{and-from, and-parts, and-right, cases-bool, cases-eq, eq-eqb, lt-ltb, ne-eqb, or-cases, or-left, or-right}
+use Rattle.std.proofs.shelf.Tests.{and-from, and-parts, and-right, cases-bool, cases-eq, lt-ltb}
 use Rattle.std.proofs.shelf.Ways.{tells}
 use Rattle.sets.specs.Lists.{any}
 use Rattle.sets.specs.Sets.{member, overlap}
 use Rattle.sets.specs.declared.TrioSet.{TrioSet}
-use Rattle.sets.proofs.Kept.{any-below-from, any-below-more, any-below-true}
-use Rattle.wiring.specs.Wires.{fed-by-some, feeds, feeds-some, no-row}
+use Rattle.sets.proofs.Kept.{any-below-more, any-below-true}
+use Rattle.wiring.specs.Wires.{feeds, feeds-some, no-row}
 use Rattle.wiring.specs.declared.links.Links.{Links}
 use Rattle.wiring.proofs.Rows.{feeds-range}
 

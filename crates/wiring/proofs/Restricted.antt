@@ -1,6 +1,6 @@
 -- Emptying the rows of some voters leaves the links of the others.
 use mathlib.Core.Path.{_≡_, refl, sym, ap, _∙_}
-use mathlib.Core.Bool.{Bool, true, false, not, _&&_, _||_}
+use mathlib.Core.Bool.{true, false, not, _&&_, _||_}
 use mathlib.Core.List.{List}
 use mathlib.Core.Logic.{⊎-elim}
 use Prim.Native.Nat.{ℕ, _+_, _≤_, _<_}
@@ -9,7 +9,7 @@ use lib.Dec.{ltb}
 use lib.ListN.{length, getD, set}
 use Rattle.std.specs.shelf.Lists.{kept-by}
 use Rattle.std.proofs.shelf.Lists.{getD-set-other, getD-set-same}
-use Rattle.std.proofs.shelf.Tests.{and-right, cases-bool, cases-eq, lt-ltb, ne-eqb}
+use Rattle.std.proofs.shelf.Tests.{and-right, cases-bool, cases-eq, lt-ltb}
 use Rattle.std.proofs.shelf.Ways.{tells}
 use Rattle.network.proofs.Links.{rising-kept}
 use Rattle.sets.specs.Sets.{member}

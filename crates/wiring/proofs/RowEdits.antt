@@ -1,16 +1,16 @@
 -- What one changed row does to the list of links.
-use mathlib.Core.Path.{_≡_, refl, sym, ap, _∙_, subst}
+use mathlib.Core.Path.{_≡_, refl, sym, ap, _∙_}
 use mathlib.Core.Bool.{Bool, true, false, cond, not, _&&_, _||_}
-use mathlib.Core.List.{List, [], _∷_}
-use mathlib.Core.Logic.{_⊎_, _≢_, inl, inr, ⊎-elim}
+use mathlib.Core.List.{List, []}
+use mathlib.Core.Logic.{_⊎_, ⊎-elim}
 use Prim.Native.Nat.{ℕ, _≤_, _<_}
 use native.Mathlib.Omega.{arith}
 use lib.Dec.{eqb, ltb}
 use lib.ListN.{length, getD, set}
 use Rattle.std.proofs.shelf.Lists.{getD-set-other, getD-set-same}
-use Rattle.std.proofs.shelf.Tests.{cases-bool, cases-eq, cases-lt, cond-true, cond-false, eq-eqb, le-ltb, lt-ltb, ne-eqb}
+use Rattle.std.proofs.shelf.Tests.{cases-bool, cases-eq, cases-lt, eq-eqb, le-ltb, lt-ltb, ne-eqb}
 use Rattle.std.proofs.shelf.Ways.{tells}
-use Rattle.network.specs.Networks.{Link, put, rising, same-link, stands, taken-out}
+use Rattle.network.specs.Networks.{Link, put, same-link, taken-out}
 use Rattle.network.proofs.Links.{rising-put, rising-taken-out, stands-put, stands-taken-out}
 use Rattle.sets.specs.Sets.{member}
 use Rattle.sets.specs.declared.TrioSet.{TrioSet}

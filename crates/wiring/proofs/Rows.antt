@@ -1,16 +1,16 @@
 -- The list of links that rows stand for: it rises, and a link stands in it where its row has its place.
-use mathlib.Core.Path.{_≡_, refl, sym, ap, _∙_, subst}
-use mathlib.Core.Bool.{Bool, true, false, cond, _&&_, _||_}
+use mathlib.Core.Path.{_≡_, refl, sym, ap, _∙_}
+use mathlib.Core.Bool.{Bool, true, false, _&&_}
 use mathlib.Core.List.{List, [], _∷_, map}
 use mathlib.Core.Logic.{_⊎_, inl, inr, ⊎-elim}
 use Prim.Native.Nat.{ℕ, _≤_, _<_}
 use native.Mathlib.Omega.{arith}
 use lib.Dec.{ltb}
-use lib.ListN.{length, getD}
+use lib.ListN.{getD}
 use Rattle.std.specs.Iters.{counting}
 use Rattle.std.specs.shelf.Lists.{kept-by}
 use Rattle.std.proofs.shelf.Lists.{getD-past}
-use Rattle.std.proofs.shelf.Tests.{and-from, and-right, both-ways, cases-bool, cases-lt, eq-eqb, false≢true, or-left, or-right}
+use Rattle.std.proofs.shelf.Tests.{and-from, and-right, both-ways, cases-bool, cases-lt, eq-eqb}
 use Rattle.network.specs.Networks.{Link, rising, same-link, stands}
 use Rattle.network.proofs.Links.{one-list, rising-kept, same-link-is}
 use Rattle.sets.specs.Lists.{any}

@@ -1,7 +1,7 @@
 -- `named_call` answers, letter by letter, what the definition has for that letter.
 use native.Mathlib.Omega.{arith}
 use borrow.Author.Tests.{ltb-true, ltb-false}
-use mathlib.Core.Path.{_≡_, sym, ap, _∙_}
+use mathlib.Core.Path.{sym, ap, _∙_}
 use Rattle.console.specs.Requests.{given-number, given-pair}
 use Rattle.console.specs.declared.line.Request.the-variants.{AddVoter, AddModule, Link, Cut, LongestRepair}
 use Rattle.console.proofs.Bounds.{one-number-most}

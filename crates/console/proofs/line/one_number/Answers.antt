@@ -1,7 +1,7 @@
 -- `one_number` answers the number of a field that ends the text and is not too big, and else nothing.
 use native.Mathlib.Omega.{arith}
 use borrow.Author.Tests.{ltb-true, ltb-false}
-use mathlib.Core.Path.{_≡_, sym, _∙_}
+use mathlib.Core.Path.{sym, _∙_}
 use Rattle.console.proofs.Numbers.{one-number-none, one-number-some, one-number-big, one-number-more}
 use Rattle.console.proofs.line.one_number.Needs as need
 

@@ -1,7 +1,7 @@
 -- `parse` answers nothing at an empty line and past 40 bytes, and else what the first byte names.
 use native.Mathlib.Omega.{arith}
 use borrow.Author.Tests.{ltb-true, ltb-false}
-use mathlib.Core.Path.{_≡_, sym, _∙_}
+use mathlib.Core.Path.{sym, _∙_}
 use Rattle.console.proofs.Calls.{request-none, request-long, request-named}
 use Rattle.console.proofs.line.parse.Needs as need
 

@@ -1,6 +1,6 @@
 -- `two_numbers` answers the number of a first field that is not too big, with the one number of the rest.
 use native.Mathlib.Omega.{arith}
-use mathlib.Core.Path.{_≡_, sym, _∙_}
+use mathlib.Core.Path.{sym, _∙_}
 use Rattle.console.proofs.Numbers.{two-numbers-none, two-numbers-big, two-numbers-second}
 use Rattle.console.proofs.line.two_numbers.Needs as need
 

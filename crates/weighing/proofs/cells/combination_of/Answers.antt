@@ -1,5 +1,5 @@
 -- Each voter takes the next digit.
-use mathlib.Core.Path.{_≡_, refl, sym, ap, _∙_, subst}
+use mathlib.Core.Path.{sym, _∙_, subst}
 use native.Mathlib.Omega.{arith}
 use Prim.Native.Nat.{ℕ, _+_, _/_}
 use Rattle.std.proofs.shelf.Tests.{eq-eqb, ne-eqb}

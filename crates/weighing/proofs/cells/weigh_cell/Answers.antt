@@ -1,7 +1,7 @@
 -- Each combination adds its weight, and in it each group is found at its first voter.
-use mathlib.Core.Path.{_≡_, sym, ap, _∙_, subst}
+use mathlib.Core.Path.{sym, ap, _∙_, subst}
 use native.Mathlib.Omega.{arith}
-use Prim.Native.Nat.{ℕ, _+_, _<_}
+use Prim.Native.Nat.{_+_}
 use lib.ListN.{length}
 use Rattle.std.proofs.shelf.Tests.{and-parts}
 use Rattle.method.specs.Method.{group-weight}
@@ -12,7 +12,7 @@ use Rattle.weighing.specs.Entries.{share-at}
 use Rattle.weighing.specs.declared.weights.Role.the-variants.{Source, Place}
 use Rattle.weighing.proofs.Chosen.{chosen-inside}
 use Rattle.weighing.proofs.Grouped.{Ungrouped, found-inside, found-voters, group-is, left-head, ungrouped-less, ungrouped-same, ungrouped-start}
-use Rattle.weighing.proofs.Weighed.{all-combinations, combination-count, combination-is, combination-on, combinations-below, first-all, group-on, group-past, groups-below}
+use Rattle.weighing.proofs.Weighed.{all-combinations, combination-count, combination-is, combination-on, first-all, group-on, group-past}
 use Rattle.weighing.proofs.cells.weigh_cell.Needs as need
 use Rattle.weighing.proofs.cells.weigh_cell.Needs.{then-contains, else-contains}
 

@@ -1,7 +1,5 @@
 -- Each cell multiplies its weight on.
-use mathlib.Core.Path.{_≡_, refl, sym, ap, _∙_}
-use native.Mathlib.Omega.{arith}
-use lib.ListN.{getD, length}
+use lib.ListN.{length}
 use Rattle.weighing.proofs.Weighed.{all-cells-done, cell-on, cut-reached}
 use Rattle.weighing.proofs.cells.weigh_cells.Needs as need
 

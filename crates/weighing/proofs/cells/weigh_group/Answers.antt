@@ -1,5 +1,5 @@
 -- The sum over the positions of the two products there.
-use mathlib.Core.Path.{_≡_, _∙_}
+use mathlib.Core.Path.{_∙_}
 use Rattle.method.specs.Method.{over-positions}
 use Rattle.weighing.proofs.cells.weigh_group.Needs as need
 

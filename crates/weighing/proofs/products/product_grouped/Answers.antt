@@ -1,5 +1,5 @@
 -- Each trio of the set multiplies on what it adds, position by position.
-use mathlib.Core.Path.{_≡_, sym, ap, _∙_}
+use mathlib.Core.Path.{sym, ap, _∙_}
 use native.Mathlib.Omega.{arith}
 use lib.ListN.{length}
 use Rattle.network.specs.Patterns.{at}

@@ -1,15 +1,14 @@
 -- A cell is the one at its place in the list.
-use mathlib.Core.Path.{_≡_, ap, _∙_}
+use mathlib.Core.Path.{ap, _∙_}
 use mathlib.Core.List.{[]}
 use native.Mathlib.Omega.{arith}
-use lib.ListN.{length}
 use Rattle.std.proofs.shelf.Tests.{le-leb, lt-leb}
 use Rattle.std.specs.declared.result.Result.the-variants.{Ok}
-use Rattle.network.specs.Cells.{Members, cell-count}
+use Rattle.network.specs.Cells.{cell-count}
 use Rattle.network.specs.Questions.{no-cell}
 use Rattle.refusals.specs.declared.Refusal.the-variants.{NoCell}
 use Rattle.network.proofs.Dues.{answers-refusal, answers-value, hit, miss}
-use Rattle.cabinet.specs.CellLists.{listed, shown-list}
+use Rattle.cabinet.specs.CellLists.{shown-list}
 use Rattle.cabinet.specs.Cabinets.{network}
 use Rattle.cabinet.proofs.Listing.{cell-listed, count-listed}
 use Rattle.cabinet.proofs.cabinet.Cabinet.cell.Needs as need

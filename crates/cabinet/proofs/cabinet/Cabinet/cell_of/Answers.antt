@@ -1,7 +1,7 @@
 -- The trio's cell is the one that holds it.
-use mathlib.Core.Path.{_≡_, sym, ap, _∙_}
+use mathlib.Core.Path.{_≡_, ap, _∙_}
 use mathlib.Core.Bool.{true}
-use mathlib.Core.List.{List, [], _∷_}
+use mathlib.Core.List.{[]}
 use Rattle.std.proofs.shelf.Tests.{not-false}
 use Rattle.std.specs.declared.result.Result.the-variants.{Ok}
 use Rattle.network.specs.Cells.{place}

@@ -1,7 +1,5 @@
 -- Each trio that is the first of its cell adds the cell.
-use mathlib.Core.Path.{_≡_, refl, sym, ap, _∙_, subst}
-use mathlib.Core.Bool.{_&&_}
-use mathlib.Core.List.{List, [], _∷_, _++_, map}
+use mathlib.Core.Path.{_≡_, sym, ap, _∙_, subst}
 use Prim.Native.Nat.{_+_, _≤_, _<_}
 use native.Mathlib.Omega.{arith}
 use lib.ListN.{getD, length}
@@ -12,7 +10,6 @@ use Rattle.network.specs.declared.Trio.{Trio}
 use Rattle.network.specs.declared.Trio.the-variants.{Voter}
 use Rattle.network.proofs.Keeps.{limits}
 use Rattle.network.proofs.Trios.{length-trios, trio-present}
-use Rattle.wiring.specs.declared.cell.Cell.{Cell}
 use Rattle.cabinet.specs.CellLists.{listed, shown-list}
 use Rattle.cabinet.specs.Cabinets.{network}
 use Rattle.cabinet.specs.declared.cell_list.CellList.{CellList}

@@ -1,14 +1,10 @@
 -- A trio that there is gets the code.
 use mathlib.Core.Path.{_≡_, sym, ap, _∙_, subst}
-use mathlib.Core.List.{[], _∷_}
+use mathlib.Core.List.{[]}
 use Rattle.std.proofs.shelf.Results.{err-from-errBy}
-use Rattle.std.specs.declared.option.Option.the-variants.{Some, None}
-use Rattle.std.specs.declared.result.Result.the-variants.{Err, Ok}
+use Rattle.std.specs.declared.result.Result.the-variants.{Err}
 use Rattle.network.specs.Changes.{absent, change-part, network-after, refusal}
-use Rattle.network.specs.Networks.{Network}
-use Rattle.refusals.specs.Refusals.{answered}
 use Rattle.network.specs.declared.Trio.{Trio}
-use Rattle.network.specs.declared.Trio.the-variants.{Voter, Module}
 use Rattle.network.proofs.Dues.{after-refusal, answers-refusal, answers-value, hit, miss, passed, stopped}
 use Rattle.cabinet.specs.Cabinets.{network}
 use Rattle.cabinet.specs.Parts.{network-of}

@@ -1,5 +1,5 @@
 -- The voters come first, and then the modules.
-use mathlib.Core.Path.{_≡_, sym, ap, _∙_}
+use mathlib.Core.Path.{ap, _∙_}
 use Prim.Native.Nat.{_-_}
 use native.Mathlib.Omega.{arith}
 use Rattle.network.specs.declared.Trio.the-variants.{Module}

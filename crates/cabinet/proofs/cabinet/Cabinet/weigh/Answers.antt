@@ -1,12 +1,11 @@
 -- One entry for each trio: the first for the voters, the others for the modules.
-use mathlib.Core.Path.{_≡_, refl, sym, ap, _∙_}
+use mathlib.Core.Path.{_≡_, sym, ap, _∙_}
 use mathlib.Core.Bool.{not}
-use mathlib.Core.List.{List, [], _∷_, map}
+use mathlib.Core.List.{[], map}
 use native.Mathlib.Omega.{arith}
-use lib.Dec.{eqb}
 use lib.ListN.{drop, length, length-drop, length-map, take}
-use Prim.Native.Nat.{ℕ, _+_, _-_}
-use Rattle.std.specs.declared.result.Result.the-variants.{Ok, Err}
+use Prim.Native.Nat.{_+_, _-_}
+use Rattle.std.specs.declared.result.Result.the-variants.{Ok}
 use Rattle.std.proofs.shelf.Lists.{take-all}
 use Rattle.std.proofs.shelf.Tests.{eq-eqb, ne-eqb}
 use Rattle.method.specs.Method.{by-cells}

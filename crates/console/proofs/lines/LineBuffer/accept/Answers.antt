@@ -1,6 +1,6 @@
 -- `accept` gives a line up at a newline, and else keeps the byte.
 use native.Mathlib.Omega.{arith}
-use mathlib.Core.Path.{_≡_, refl, _∙_}
+use mathlib.Core.Path.{refl, _∙_}
 use Rattle.console.proofs.Cuts.{cut-more}
 use Rattle.console.proofs.Endings.{splits-byte, splits-newline}
 use Rattle.console.proofs.lines.LineBuffer.accept.Needs as need

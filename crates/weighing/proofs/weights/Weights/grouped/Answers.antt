@@ -1,5 +1,5 @@
 -- A source adds its weights as they are.
-use mathlib.Core.Path.{_≡_, sym, ap}
+use mathlib.Core.Path.{sym, ap}
 use Rattle.network.specs.Patterns.{at}
 use Rattle.weighing.specs.Entries.{read, share}
 use Rattle.weighing.specs.declared.weights.Role.{Role}

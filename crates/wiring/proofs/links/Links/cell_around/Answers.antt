@@ -1,8 +1,5 @@
 -- The set grows along the links, and once it grows no more it is the cell.
 use native.Mathlib.Omega.{arith}
-use Rattle.network.specs.declared.Trio.{Trio}
-use Rattle.wiring.specs.declared.cell.Cell.{Cell}
-use Rattle.wiring.specs.declared.links.Links.{Links}
 use Rattle.wiring.proofs.Closure.{Grows, grown-size, grown-sound, grown-started, is-cell, only-sound, only-started, size-bound}
 use Rattle.wiring.proofs.links.Links.cell_around.Needs as need
 

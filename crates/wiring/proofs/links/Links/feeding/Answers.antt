@@ -1,14 +1,11 @@
 -- Each voter whose row meets the set is found.
 use mathlib.Core.Path.{_≡_, sym, ap, _∙_, subst}
-use mathlib.Core.Bool.{_&&_}
 use Prim.Native.Nat.{ℕ, _+_}
 use native.Mathlib.Omega.{arith}
 use lib.Dec.{ltb}
-use Rattle.std.proofs.shelf.Tests.{and-left, le-ltb, lt-ltb}
+use Rattle.std.proofs.shelf.Tests.{and-left, le-ltb}
 use Rattle.sets.specs.Sets.{member}
 use Rattle.sets.specs.declared.TrioSet.{TrioSet}
-use Rattle.sets.proofs.Members.{member-past}
-use Rattle.wiring.specs.Wires.{feeds-some}
 use Rattle.wiring.proofs.Grown.{feeding-more, feeding-none, feeding-same, feeding-so-far, overlap-feeds}
 use Rattle.wiring.proofs.links.Links.feeding.Needs as need
 use Rattle.wiring.proofs.links.Links.feeding.Needs.{then-meets, else-meets}

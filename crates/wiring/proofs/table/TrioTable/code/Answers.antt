@@ -1,5 +1,5 @@
 -- A trio's code is that at its place in the list.
-use mathlib.Core.Path.{_≡_, sym, ap, _∙_}
+use mathlib.Core.Path.{sym, ap, _∙_}
 use native.Mathlib.Omega.{arith}
 use Rattle.std.proofs.shelf.Tests.{cond-false, cond-true, le-ltb, lt-ltb}
 use Rattle.std.specs.declared.option.Option.the-variants.{Some}
