@@ -1,5 +1,4 @@
 // What the rules of a cabinet speak of: its trios, and theorems about them.
-ghost use mathlib.Core.Path.{_≡_};
 ghost use Rattle.network.specs.Chains.{Chains-agree};
 ghost use Rattle.network.specs.Changes.{Limits-kept};
 ghost use Rattle.network.specs.Partition.{Cells-are-numbered};
