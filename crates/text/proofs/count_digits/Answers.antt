@@ -5,14 +5,14 @@ use Rattle.text.specs.Fields.{is_digit}
 use Rattle.text.proofs.Digits.{length_leading}
 use Rattle.text.proofs.count_digits.Goals as goal
 
-pub returns-then-not-is-ascii-digit : goal.returns-then-not-is-ascii-digit
-returns-then-not-is-ascii-digit c =
-    let stop = prefix_len-drop_no is_digit c.args.text.now c.loop-i.i 0 c.loop-i-test.true (sym c.is-ascii-digit.ensures.value ∙ c.if-not-is-ascii-digit.true) in
+pub returns-then-not-is_ascii_digit : goal.returns-then-not-is_ascii_digit
+returns-then-not-is_ascii_digit c =
+    let stop = prefix_len-drop_no is_digit c.args.text.now c.loop-i.i 0 c.loop-i-test.true (sym c.is_ascii_digit.ensures.value ∙ c.if-not-is_ascii_digit.true) in
     omega (arith, c.loop-i.invariant, length_leading c.args.text.now)
 
 pub loop-i-preserved : goal.loop-i-preserved
 loop-i-preserved c =
-    let more = prefix_len-drop_yes is_digit c.args.text.now c.loop-i.i 0 c.loop-i-test.true (sym c.is-ascii-digit.ensures.value ∙ c.if-not-is-ascii-digit.false) in
+    let more = prefix_len-drop_yes is_digit c.args.text.now c.loop-i.i 0 c.loop-i-test.true (sym c.is_ascii_digit.ensures.value ∙ c.if-not-is_ascii_digit.false) in
     omega (arith, c.loop-i.invariant)
 
 pub returns : goal.returns

@@ -8,14 +8,14 @@ pub loop-b-init : goal.loop-b-init
 unfolding value_of
 loop-b-init c = refl
 
-pub overflow-mul-n : goal.overflow-mul-n
-overflow-mul-n c = omega (arith, reads_small _ c.loop-b.b-index _ c.loop-b.invariant c.requires.short c.requires.all)
+pub overflow_mul-n : goal.overflow_mul-n
+overflow_mul-n c = omega (arith, reads_small _ c.loop-b.b-index _ c.loop-b.invariant c.requires.short c.requires.all)
 
-pub overflow-sub-b : goal.overflow-sub-b
-overflow-sub-b c = digit_least _ _ c.requires.all (omega arith)
+pub overflow_sub-b : goal.overflow_sub-b
+overflow_sub-b c = digit_least _ _ c.requires.all (omega arith)
 
-pub overflow-add-n : goal.overflow-add-n
-overflow-add-n c = omega (arith, reads_small _ c.loop-b.b-index _ c.loop-b.invariant c.requires.short c.requires.all)
+pub overflow_add-n : goal.overflow_add-n
+overflow_add-n c = omega (arith, reads_small _ c.loop-b.b-index _ c.loop-b.invariant c.requires.short c.requires.all)
 
 pub loop-b-preserved : goal.loop-b-preserved
 loop-b-preserved c = reads_more _ c.loop-b.b-index _ c.loop-b.invariant _ (omega arith) (omega arith)

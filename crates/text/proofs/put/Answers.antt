@@ -4,17 +4,17 @@ use Rattle.text.specs.Placed.{end_of}
 use Rattle.text.proofs.Writes.{end_of_fits, end_of_full, after_write_fits, after_write_full, putMid_placed}
 use Rattle.text.proofs.put.Goals as goal
 
-pub returns-in-err-end : goal.returns-in-err-end
-returns-in-err-end c =
-    let full : length c.args.buffer.now < c.args.at + length c.args.text.now = omega (arith, c.in-err-end.ensures) in
+pub returns-in_err-end : goal.returns-in_err-end
+returns-in_err-end c =
+    let full : length c.args.buffer.now < c.args.at + length c.args.text.now = omega (arith, c.in_err-end.ensures) in
     record {
-      value = c.from-residual.ensures ∙ sym (end_of_full _ _ _ full);
+      value = c.from_residual.ensures ∙ sym (end_of_full _ _ _ full);
       after = sym (after_write_full _ _ _ full);
     }
 
 pub returns-then-end-buffer : goal.returns-then-end-buffer
 returns-then-end-buffer c =
-    let full : length c.args.buffer.now < c.args.at + length c.args.text.now = omega (arith, c.in-ok-end.ensures) in
+    let full : length c.args.buffer.now < c.args.at + length c.args.text.now = omega (arith, c.in_ok-end.ensures) in
     record {
       value = sym (end_of_full _ _ _ full);
       after = sym (after_write_full _ _ _ full);
@@ -26,9 +26,9 @@ ended at t buffer end fits same = ap Some same ∙ sym (end_of_fits at t buffer 
 
 pub returns : goal.returns
 returns c =
-    let ends = c.in-ok-end.ensures.1 in
+    let ends = c.in_ok-end.ensures.1 in
     let fits : c.args.at + length c.args.text.now ≤ length c.args.buffer.now = omega arith in
     record {
       value = ended _ _ _ _ fits (omega arith);
-      after = putMid_placed _ _ _ _ _ (omega arith) c.copy-from-slice.ensures.after ∙ sym (after_write_fits _ _ _ fits);
+      after = putMid_placed _ _ _ _ _ (omega arith) c.copy_from_slice.ensures.after ∙ sym (after_write_fits _ _ _ fits);
     }

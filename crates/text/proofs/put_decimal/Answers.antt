@@ -11,7 +11,7 @@ part digits start m n long tail same =
 
 pub returns : goal.returns
 returns c =
-    let filled = c.fill-digits-start in
+    let filled = c.fill_digits-start in
     let same = part filled.new.digits filled.result _ c.args.n filled.array_long filled.ensures.after (omega arith) in
     record {
       value = c.put.ensures.value ∙ ap (λ t. end_of c.args.at t c.args.buffer.now) same;

@@ -4,16 +4,16 @@ use Rattle.text.specs.Fields.{leading_digits, value_of}
 use Rattle.text.proofs.Digits.{length_leading_le, take_leading, leading_leading}
 use Rattle.text.proofs.Fields.{field_none, field_other, field_space, number_first_none, number_first_is}
 use Rattle.text.proofs.read_field.Goals as goal
-use Rattle.text.proofs.read_field.Goals.{in-default-via-then-line-lt1, in-default-via-else-line-lt1+in-default·}
+use Rattle.text.proofs.read_field.Goals.{in_default-via-then-line-lt1, in_default-via-else-line-lt1+in_default·}
 
 -- what follows the first byte, as the pattern cuts it off
 abbrev after : List ℕ → List ℕ
 after line = take (length line - 1) (drop 1 line)
 
-pub returns-in-default : goal.returns-in-default
-returns-in-default c = elim c.in-default.branch [
-  | in-default-via-then-line-lt1 w ↦ sym (field_none c.args.line.now (omega (arith, ltb-true)))
-  | in-default-via-else-line-lt1+in-default· w ↦ sym (field_other c.args.line.now (omega arith))
+pub returns-in_default : goal.returns-in_default
+returns-in_default c = elim c.in_default.branch [
+  | in_default-via-then-line-lt1 w ↦ sym (field_none c.args.line.now (omega (arith, ltb-true)))
+  | in_default-via-else-line-lt1+in_default· w ↦ sym (field_other c.args.line.now (omega arith))
 ]
 
 pub returns-then-count-eq0 : goal.returns-then-count-eq0
@@ -23,18 +23,18 @@ returns-then-count-eq0 c =
     let many : (length (leading_digits (after c.args.line.now)) ≡ 0) ⊎ (10 < length (leading_digits (after c.args.line.now))) = grind arith in
     sym (field_space c.args.line.now long space ∙ number_first_none (after c.args.line.now) many)
 
-pub split-at-requires : goal.split-at-requires
-split-at-requires c = omega (arith, length_leading_le (after c.args.line.now), c.count-digits-count.ensures)
+pub split_at-requires : goal.split_at-requires
+split_at-requires c = omega (arith, length_leading_le (after c.args.line.now), c.count_digits-count.ensures)
 
 -- the part that is split off holds the digits
 front : (text part : List ℕ) (n : ℕ) → part ≡ take n text → n ≡ length (leading_digits text) → part ≡ leading_digits text
 front text part n split count = split ∙ ap (λ k. take k text) count ∙ take_leading text
 
-pub number-of-requires : goal.number-of-requires
-number-of-requires c =
-    let digits = front (after c.args.line.now) _ _ c.split-at.ensures.front (omega arith) in
+pub number_of-requires : goal.number_of-requires
+number_of-requires c =
+    let digits = front (after c.args.line.now) _ _ c.split_at.ensures.front (omega arith) in
     record {
-      short = omega (arith, c.split-at.ensures.front-len);
+      short = omega (arith, c.split_at.ensures.front-len);
       all = ap leading_digits digits ∙ leading_leading (after c.args.line.now) ∙ sym digits;
     }
 
@@ -42,6 +42,6 @@ pub returns : goal.returns
 returns c =
     let long : 1 ≤ length c.args.line.now = omega (arith, ltb-false) in
     let space : get_or c.args.line.now 0 0 ≡ 32 = omega arith in
-    let digits = front (after c.args.line.now) _ _ c.split-at.ensures.front (omega arith) in
-    number_first_is (after c.args.line.now) _ _ _ (omega arith) (omega arith) c.count-digits-count.ensures (c.number-of.ensures ∙ ap value_of digits) c.split-at.ensures.back
+    let digits = front (after c.args.line.now) _ _ c.split_at.ensures.front (omega arith) in
+    number_first_is (after c.args.line.now) _ _ _ (omega arith) (omega arith) c.count_digits-count.ensures (c.number_of.ensures ∙ ap value_of digits) c.split_at.ensures.back
     ∙ sym (field_space c.args.line.now long space)

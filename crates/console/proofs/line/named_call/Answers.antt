@@ -6,65 +6,65 @@ use Rattle.console.proofs.Bounds.{one_number_most}
 use Rattle.console.proofs.Calls.{names_v, names_m, names_l, names_x, names_c, names_c_more, names_h, names_none}
 use Rattle.console.proofs.line.named_call.Goals as goal
 
-pub returns-in-err-one-number : goal.returns-in-err-one-number
-returns-in-err-one-number c =
-    c.from-residual.ensures
-    ∙ ap (given_number AddVoter) c.in-err-one-number.ensures
+pub returns-in_err-one_number : goal.returns-in_err-one_number
+returns-in_err-one_number c =
+    c.from_residual.ensures
+    ∙ ap (given_number AddVoter) c.in_err-one_number.ensures
     ∙ sym (names_v _ _ _ (omega arith) (omega arith))
 
-pub overflow-cast-result : goal.overflow-cast-result
-overflow-cast-result c = omega (arith, one_number_most _ _ _ (sym c.in-ok-one-number.ensures))
+pub overflow_cast-result : goal.overflow_cast-result
+overflow_cast-result c = omega (arith, one_number_most _ _ _ (sym c.in_ok-one_number.ensures))
 
-pub returns-in-ok-one-number : goal.returns-in-ok-one-number
-returns-in-ok-one-number c = ap (given_number AddVoter) c.in-ok-one-number.ensures ∙ sym (names_v _ _ _ (omega arith) (omega arith))
+pub returns-in_ok-one_number : goal.returns-in_ok-one_number
+returns-in_ok-one_number c = ap (given_number AddVoter) c.in_ok-one_number.ensures ∙ sym (names_v _ _ _ (omega arith) (omega arith))
 
-pub returns-in-err-one-number-2 : goal.returns-in-err-one-number-2
-returns-in-err-one-number-2 c =
-    c.from-residual-in-err-one-number-2.ensures
-    ∙ ap (given_number AddModule) c.in-err-one-number-2.ensures
+pub returns-in_err-one_number-2 : goal.returns-in_err-one_number-2
+returns-in_err-one_number-2 c =
+    c.from_residual-in_err-one_number-2.ensures
+    ∙ ap (given_number AddModule) c.in_err-one_number-2.ensures
     ∙ sym (names_m _ _ _ (omega arith) (omega arith))
 
-pub overflow-cast-result-in-M : goal.overflow-cast-result-in-M
-overflow-cast-result-in-M c = omega (arith, one_number_most _ _ _ (sym c.in-ok-one-number-2.ensures))
+pub overflow_cast-result-in-M : goal.overflow_cast-result-in-M
+overflow_cast-result-in-M c = omega (arith, one_number_most _ _ _ (sym c.in_ok-one_number-2.ensures))
 
-pub returns-in-ok-one-number-2 : goal.returns-in-ok-one-number-2
-returns-in-ok-one-number-2 c = ap (given_number AddModule) c.in-ok-one-number-2.ensures ∙ sym (names_m _ _ _ (omega arith) (omega arith))
+pub returns-in_ok-one_number-2 : goal.returns-in_ok-one_number-2
+returns-in_ok-one_number-2 c = ap (given_number AddModule) c.in_ok-one_number-2.ensures ∙ sym (names_m _ _ _ (omega arith) (omega arith))
 
-pub returns-in-err-voter : goal.returns-in-err-voter
-returns-in-err-voter c =
-    c.from-residual-in-err-voter.ensures
-    ∙ ap (given_pair Link) c.in-err-voter.ensures
+pub returns-in_err-voter : goal.returns-in_err-voter
+returns-in_err-voter c =
+    c.from_residual-in_err-voter.ensures
+    ∙ ap (given_pair Link) c.in_err-voter.ensures
     ∙ sym (names_l _ _ _ (omega arith) (omega arith))
 
-pub returns-in-ok-voter : goal.returns-in-ok-voter
-returns-in-ok-voter c = ap (given_pair Link) c.in-ok-voter.ensures ∙ sym (names_l _ _ _ (omega arith) (omega arith))
+pub returns-in_ok-voter : goal.returns-in_ok-voter
+returns-in_ok-voter c = ap (given_pair Link) c.in_ok-voter.ensures ∙ sym (names_l _ _ _ (omega arith) (omega arith))
 
-pub returns-in-err-voter-2 : goal.returns-in-err-voter-2
-returns-in-err-voter-2 c =
-    c.from-residual-in-err-voter-2.ensures
-    ∙ ap (given_pair Cut) c.in-err-voter-2.ensures
+pub returns-in_err-voter-2 : goal.returns-in_err-voter-2
+returns-in_err-voter-2 c =
+    c.from_residual-in_err-voter-2.ensures
+    ∙ ap (given_pair Cut) c.in_err-voter-2.ensures
     ∙ sym (names_x _ _ _ (omega arith) (omega arith))
 
-pub returns-in-ok-voter-2 : goal.returns-in-ok-voter-2
-returns-in-ok-voter-2 c = ap (given_pair Cut) c.in-ok-voter-2.ensures ∙ sym (names_x _ _ _ (omega arith) (omega arith))
+pub returns-in_ok-voter-2 : goal.returns-in_ok-voter-2
+returns-in_ok-voter-2 c = ap (given_pair Cut) c.in_ok-voter-2.ensures ∙ sym (names_x _ _ _ (omega arith) (omega arith))
 
 pub returns-in-empty : goal.returns-in-empty
 returns-in-empty c = sym (names_c _ _ (omega arith) (omega (arith, ltb-true)))
 
-pub returns-in-default-default : goal.returns-in-default-default
-returns-in-default-default c = sym (names_c_more _ _ (omega arith) (omega (arith, ltb-false)))
+pub returns-in_default-default : goal.returns-in_default-default
+returns-in_default-default c = sym (names_c_more _ _ (omega arith) (omega (arith, ltb-false)))
 
-pub returns-in-err-one-number-3 : goal.returns-in-err-one-number-3
-returns-in-err-one-number-3 c =
-    c.from-residual-in-err-one-number-3.ensures
-    ∙ ap (given_number LongestRepair) c.in-err-one-number-3.ensures
+pub returns-in_err-one_number-3 : goal.returns-in_err-one_number-3
+returns-in_err-one_number-3 c =
+    c.from_residual-in_err-one_number-3.ensures
+    ∙ ap (given_number LongestRepair) c.in_err-one_number-3.ensures
     ∙ sym (names_h _ _ _ (omega arith) (omega arith))
 
-pub overflow-cast-result-in-H : goal.overflow-cast-result-in-H
-overflow-cast-result-in-H c = omega (arith, one_number_most _ _ _ (sym c.in-ok-one-number-3.ensures))
+pub overflow_cast-result-in-H : goal.overflow_cast-result-in-H
+overflow_cast-result-in-H c = omega (arith, one_number_most _ _ _ (sym c.in_ok-one_number-3.ensures))
 
-pub returns-in-ok-one-number-3 : goal.returns-in-ok-one-number-3
-returns-in-ok-one-number-3 c = ap (given_number LongestRepair) c.in-ok-one-number-3.ensures ∙ sym (names_h _ _ _ (omega arith) (omega arith))
+pub returns-in_ok-one_number-3 : goal.returns-in_ok-one_number-3
+returns-in_ok-one_number-3 c = ap (given_number LongestRepair) c.in_ok-one_number-3.ensures ∙ sym (names_h _ _ _ (omega arith) (omega arith))
 
-pub returns-in-default : goal.returns-in-default
-returns-in-default c = sym (names_none _ _ (omega arith) (omega arith) (omega arith) (omega arith) (omega arith) (omega arith))
+pub returns-in_default : goal.returns-in_default
+returns-in_default c = sym (names_none _ _ (omega arith) (omega arith) (omega arith) (omega arith) (omega arith) (omega arith))

@@ -3,11 +3,11 @@ use Rattle.std.proofs.Common.{sym, ◌∙◌, arith, ltb-false, ltb-true}
 use Rattle.console.proofs.Calls.{request_none, request_long, request_named}
 use Rattle.console.proofs.line.parse.Goals as goal
 
-pub returns-in-default : goal.returns-in-default
-returns-in-default c = sym (request_none _ (omega (arith, ltb-true)))
+pub returns-in_default : goal.returns-in_default
+returns-in_default c = sym (request_none _ (omega (arith, ltb-true)))
 
-pub returns-then-line-gt-LONGEST-LINE : goal.returns-then-line-gt-LONGEST-LINE
-returns-then-line-gt-LONGEST-LINE c = sym (request_long _ (omega arith))
+pub returns-then-line-gt-LONGEST_LINE : goal.returns-then-line-gt-LONGEST_LINE
+returns-then-line-gt-LONGEST_LINE c = sym (request_long _ (omega arith))
 
 pub returns : goal.returns
 returns c = c.named_call.ensures ∙ sym (request_named _ (omega (arith, ltb-false)) (omega arith))

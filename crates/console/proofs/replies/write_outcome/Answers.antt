@@ -7,11 +7,11 @@ use Rattle.console.specs.Replies.{newline, outcome_text, reply_text}
 use Rattle.console.proofs.Written.{count_few, hours_few}
 use Rattle.console.proofs.replies.write_outcome.Goals as goal
 
-pub write-total-requires : goal.write-total-requires
-write-total-requires c = omega (arith, count_few (count_value c.in-Counted.count))
+pub write_total-requires : goal.write_total-requires
+write_total-requires c = omega (arith, count_few (count_value c.in-Counted.count))
 
-pub write-total-requires-in-Lasting : goal.write-total-requires-in-Lasting
-write-total-requires-in-Lasting c = omega (arith, hours_few (duration_value c.in-Lasting.hours))
+pub write_total-requires-in-Lasting : goal.write_total-requires-in-Lasting
+write_total-requires-in-Lasting c = omega (arith, hours_few (duration_value c.in-Lasting.hours))
 
 pub returns-in-Done : goal.returns-in-Done
 unfolding reply_text

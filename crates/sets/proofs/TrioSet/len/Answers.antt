@@ -12,8 +12,8 @@ counted : (s : TrioSet) → s.bits < 2 ^ 16 → ones s.bits ≡ length (members 
 unfolding members
 counted s h = ones_kept (member s) 16 0 s.bits h (word_tells s)
 
-pub overflow-cast-result : goal.overflow-cast-result
-overflow-cast-result c = omega (arith, ones-le 16 c.args.self.bits (omega arith))
+pub overflow_cast-result : goal.overflow_cast-result
+overflow_cast-result c = omega (arith, ones-le 16 c.args.self.bits (omega arith))
 
 pub returns : goal.returns
 returns c = counted c.args.self (omega arith)

@@ -7,11 +7,11 @@ use Rattle.sets.proofs.Digits.{bit, bit_of_xor, bit_pow}
 use Rattle.sets.proofs.Members.{member_below, member_bit}
 use Rattle.sets.proofs.TrioSet.without.Goals as goal
 
-pub overflow-shl-result : goal.overflow-shl-result
-overflow-shl-result c = member_below c.args.self c.args.i (sym c.if-contains.ensures)
+pub overflow_shl-result : goal.overflow_shl-result
+overflow_shl-result c = member_below c.args.self c.args.i (sym c.if-contains.ensures)
 
-pub overflow-cast-result : goal.overflow-cast-result
-overflow-cast-result c = omega (arith, member_below c.args.self c.args.i (sym c.if-contains.ensures))
+pub overflow_cast-result : goal.overflow_cast-result
+overflow_cast-result c = omega (arith, member_below c.args.self c.args.i (sym c.if-contains.ensures))
 
 cleared : (b x e : Bool) → (e ≡ true → x ≡ true) → (b && cond e (not x) x) ≡ ((b && x) && not e)
 cleared false x e h = refl

@@ -13,20 +13,20 @@ use Rattle.weighing.proofs.Weighed.{all_combinations, combination_count, combina
 use Rattle.weighing.proofs.cells.weigh_cell.Goals as goal
 use Rattle.weighing.proofs.cells.weigh_cell.Goals.{then-contains, else-contains}
 
-pub overflow-shl-j-end : goal.overflow-shl-j-end
-overflow-shl-j-end g c = omega (arith, c.len-j-end.ensures, len_bound c.args.cell.voters)
+pub overflow_shl-j-end : goal.overflow_shl-j-end
+overflow_shl-j-end g c = omega (arith, c.len-j-end.ensures, len_bound c.args.cell.voters)
 
 pub loop-j-init : goal.loop-j-init
 loop-j-init g c = c.nothing-total.ensures
 
 pub loop-v-init : goal.loop-v-init
-loop-v-init g c = (ungrouped_start c.args.links.now c.combination-of-chosen.result, c.unit-groups.ensures)
+loop-v-init g c = (ungrouped_start c.args.links.now c.combination_of-chosen.result, c.unit-groups.ensures)
 
 pub loop-v-preserved : goal.loop-v-preserved
 loop-v-preserved g c =
     let w = g.W.Weight in
     let ls = c.args.links.now in
-    let chosen = c.combination-of-chosen.result in
+    let chosen = c.combination_of-chosen.result in
     let v = c.loop-v.v in
     let left = c.loop-v.ungrouped in
     let so_far = c.loop-v.invariant.0 in
@@ -37,16 +37,16 @@ loop-v-preserved g c =
     elim c.if-contains.branch [
       | then-contains y ↦
           let there = sym c.contains.ensures ∙ y.if-contains.true in
-          let found = y.cell-around-group.result in
+          let found = y.cell_around-group.result in
           let fed = y.intersection-fed.result in
-          let own = c.only-from-own.result in
-          let own_is = c.only-from-own.ensures in
-          let around = y.cell-around-group.ensures in
+          let own = c.only_from-own.result in
+          let own_is = c.only_from-own.ensures in
+          let around = y.cell_around-group.ensures in
           let fed_is = y.intersection-fed.ensures in
           let inside = found_inside ls chosen v left so_far own found cell.modules fed there own_is around fed_is in
-          let voters-all = first_all found.voters (length vs) (λ k h. c.requires.voters k (chosen_inside cell.voters chosen c.loop-j.j c.combination-of-chosen.ensures k (inside k h))) in
+          let voters-all = first_all found.voters (length vs) (λ k h. c.requires.voters k (chosen_inside cell.voters chosen c.loop-j.j c.combination_of-chosen.ensures k (inside k h))) in
           let fed-all = first_all fed (length ms) (λ k h. c.requires.modules k (and_parts (member found.modules k) (member cell.modules k) (sym (fed_is k) ∙ h)).1) in
-          let weighed = y.weigh-group.ensures ∙ (λ i. group_weight w.kind (share_at w.kind w.value Source vs) (share_at w.kind w.value Place ms) (voters-all i, fed-all i)) in (
+          let weighed = y.weigh_group.ensures ∙ (λ i. group_weight w.kind (share_at w.kind w.value Source vs) (share_at w.kind w.value Place ms) (voters-all i, fed-all i)) in (
             subst P (sym y.ungrouped-is) (ungrouped_less ls chosen v left so_far y.difference-ungrouped.result found.voters there (found_voters ls chosen v left so_far own found cell.modules fed there own_is around fed_is) y.difference-ungrouped.ensures),
             group_on w.kind w.value vs ms ls cell chosen v _ _ _ (sym (left_head ls chosen v left so_far) ∙ there)
                 (group_is ls chosen v left so_far own found cell.modules fed there own_is around fed_is)
@@ -64,16 +64,16 @@ pub loop-j-preserved : goal.loop-j-preserved
 loop-j-preserved g c =
     let w = g.W.Weight in
     let ls = c.args.links.now in
-    let chosen = c.combination-of-chosen.result in
+    let chosen = c.combination_of-chosen.result in
     let vs = c.args.voters.now in
     let ms = c.args.modules.now in
     let cell = c.args.cell in
-    combination_on w.kind w.value vs ms ls cell c.loop-j.j chosen _ _ _ c.combination-of-chosen.ensures
-    (combination_is w.kind w.value vs ms ls cell chosen c.difference.result c.fed-by.result c.difference-in-loop-j.result c.difference.ensures c.fed-by.ensures c.difference-in-loop-j.ensures c.requires.voters c.requires.modules
+    combination_on w.kind w.value vs ms ls cell c.loop-j.j chosen _ _ _ c.combination_of-chosen.ensures
+    (combination_is w.kind w.value vs ms ls cell chosen c.difference.result c.fed_by.result c.difference-in-loop-j.result c.difference.ensures c.fed_by.ensures c.difference-in-loop-j.ensures c.requires.voters c.requires.modules
     _ _ _ c.loop-v.v (omega (arith, c.loop-v-test.false, c.loop-v.auto.v-end))
-    c.product-apart-whole.ensures c.loop-v.invariant.1 c.product-apart-unfed.ensures)
+    c.product_apart-whole.ensures c.loop-v.invariant.1 c.product_apart-unfed.ensures)
     c.loop-j.invariant
-    (c.plus-total.ensures ∙ ap (w.kind.plus (w.value c.loop-j.total)) (c.times-in-loop-j.ensures ∙ ap (λ x. w.kind.times x (w.value c.product-apart-unfed.result)) c.times.ensures))
+    (c.plus-total.ensures ∙ ap (w.kind.plus (w.value c.loop-j.total)) (c.times-in-loop-j.ensures ∙ ap (λ x. w.kind.times x (w.value c.product_apart-unfed.result)) c.times.ensures))
 
 pub returns : goal.returns
 returns g c =

@@ -7,8 +7,8 @@ use Rattle.cabinet.specs.Cabinets.{network}
 use Rattle.cabinet.proofs.Calls.{added_module, free_module, full_modules, still_within}
 use Rattle.cabinet.proofs.cabinet.Cabinet.add_module.Goals as goal
 
-pub invariant-of-self : goal.invariant-of-self
-invariant-of-self c =
+pub invariant_of-self : goal.invariant_of-self
+invariant_of-self c =
     let s = c.args.self.now in
     (still_within (add_module c.args.code) (network s) _ s.limits (added_module s.voters s.modules s.links c.args.code c.push.new.self c.push.result c.push.ensures.value c.push.ensures.after), tt)
 

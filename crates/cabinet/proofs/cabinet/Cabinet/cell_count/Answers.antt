@@ -6,4 +6,4 @@ use Rattle.cabinet.proofs.Listing.{count_listed}
 use Rattle.cabinet.proofs.cabinet.Cabinet.cell_count.Goals as goal
 
 pub returns : goal.returns
-returns c = ap length c.as-slice.ensures ∙ count_listed (network c.args.self.now) (listed c.cells-list.result) c.cells-list.ensures
+returns c = ap length c.as_slice.ensures ∙ count_listed (network c.args.self.now) (listed c.cells-list.result) c.cells-list.ensures

@@ -25,6 +25,6 @@ returns c =
     let n = network s in
     let t = c.args.trio in
     let l = limits n s.limits in
-    let k = passed (absent t n) tt _ c.in-ok-present.ensures in
-    let found = c.place-of.ensures ∙ ap (place (λ (x : Cell). holds x t)) c.as-slice.ensures ∙ place_listed n t l.few_voters l.few_modules (there n t k) (listed c.cells-list.result) c.cells-list.ensures in
+    let k = passed (absent t n) tt _ c.in_ok-present.ensures in
+    let found = c.place_of.ensures ∙ ap (place (λ (x : Cell). holds x t)) c.as_slice.ensures ∙ place_listed n t l.few_voters l.few_modules (there n t k) (listed c.cells-list.result) c.cells-list.ensures in
     ap Ok found ∙ answers_value _ _ (miss (absent t n) [] k)

@@ -13,10 +13,10 @@ use Rattle.cabinet.specs.declared.cell_list.CellList.{CellList}
 use Rattle.cabinet.proofs.CellsOf.{Around, shown_are}
 use Rattle.cabinet.proofs.Listing.{all_listed, cells_so_far, no_more_cell, one_more_cell, starts_leads}
 use Rattle.cabinet.proofs.cabinet.Cabinet.cells.Goals as goal
-use Rattle.cabinet.proofs.cabinet.Cabinet.cells.Goals.{then-starts-at, else-starts-at}
+use Rattle.cabinet.proofs.cabinet.Cabinet.cells.Goals.{then-starts_at, else-starts_at}
 
-pub overflow-add-k-end : goal.overflow-add-k-end
-overflow-add-k-end c = let l = limits (network c.args.self.now) c.args.self.now.limits in omega (arith, l.few_voters, l.few_modules, c.len.ensures, c.len-2.ensures)
+pub overflow_add-k-end : goal.overflow_add-k-end
+overflow_add-k-end c = let l = limits (network c.args.self.now) c.args.self.now.limits in omega (arith, l.few_voters, l.few_modules, c.len.ensures, c.len-2.ensures)
 
 pub loop-k-init : goal.loop-k-init
 loop-k-init c = (rw c.new-list.ensures (omega arith), ap shown_list c.new-list.ensures)
@@ -30,19 +30,19 @@ loop-k-preserved c =
     let more : k < voter_count n + module_count n = omega (arith, c.len.ensures, c.len-2.ensures) in
     let within : k < length (trios n) = omega (arith, length_trios n, more) in
     let t = get_or (trios n) k (Voter 0) in
-    let is = c.trio-at-trio.ensures more in
-    let cell = c.cell-around-cell.result in
-    let around : Around n t cell = let P : Trio → Type 0 = λ x. Around n x cell in subst P is c.cell-around-cell.ensures in
+    let is = c.trio_at-trio.ensures more in
+    let cell = c.cell_around-cell.result in
+    let around : Around n t cell = let P : Trio → Type 0 = λ x. Around n x cell in subst P is c.cell_around-cell.ensures in
     let here = trio_present n k more in
     let same = shown_are n t cell l.few_voters l.few_modules l.insides here around in
     let starts = ap (λ x. Rattle.wiring.specs.CellSets.starts_at cell x) (sym is) ∙ sym c.starts_at.ensures in
     let first = sym (starts_leads n t cell l.insides l.few_voters l.few_modules here around) ∙ starts in
     let P : CellList → Type 0 = λ x. (length (listed x) ≤ k + 1) × (shown_list (listed x) ≡ cells_so_far n (k + 1)) in
-    elim c.if-starts-at.branch [
-      | then-starts-at w ↦
+    elim c.if-starts_at.branch [
+      | then-starts_at w ↦
           let added = w.push.ensures ∙ cond-true _ _ _ (lt-ltb (length (listed c.loop-k.list)) 31 (omega (arith, c.loop-k.invariant.0, more, l.few_voters, l.few_modules))) in
-          subst P (sym w.list-is) (omega (arith, ap length added, length_push (listed c.loop-k.list) cell, c.loop-k.invariant.0), one_more_cell n k within (listed c.loop-k.list) _ cell c.loop-k.invariant.1 added same (first ∙ w.if-starts-at.true))
-      | else-starts-at w ↦ subst P (sym w.list-is) (omega (arith, c.loop-k.invariant.0), no_more_cell n k within (listed c.loop-k.list) c.loop-k.invariant.1 (first ∙ w.if-starts-at.false))
+          subst P (sym w.list-is) (omega (arith, ap length added, length_push (listed c.loop-k.list) cell, c.loop-k.invariant.0), one_more_cell n k within (listed c.loop-k.list) _ cell c.loop-k.invariant.1 added same (first ∙ w.if-starts_at.true))
+      | else-starts_at w ↦ subst P (sym w.list-is) (omega (arith, c.loop-k.invariant.0), no_more_cell n k within (listed c.loop-k.list) c.loop-k.invariant.1 (first ∙ w.if-starts_at.false))
     ]
 
 pub returns : goal.returns

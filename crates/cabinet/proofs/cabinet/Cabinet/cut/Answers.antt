@@ -12,28 +12,28 @@ use Rattle.cabinet.proofs.Linking.{cut_after, cut_free, cut_no_module, cut_no_vo
 use Rattle.cabinet.proofs.cabinet.Cabinet.cut.Goals as goal
 use Rattle.cabinet.proofs.cabinet.Cabinet.cut.Goals.{After-without-self}
 
-pub returns-in-err-present : goal.returns-in-err-present
-returns-in-err-present c =
+pub returns-in_err-present : goal.returns-in_err-present
+returns-in_err-present c =
     let n = network c.args.self.now in
-    let p = err_from_is_err_and c.from-residual.result c.from-residual.ensures.1 in
-    let stop = stopped (absent (Voter c.args.voter) n) tt c.in-err-present.field-0.0 c.in-err-present.ensures in
+    let p = err_from_is_err_and c.from_residual.result c.from_residual.ensures.1 in
+    let stop = stopped (absent (Voter c.args.voter) n) tt c.in_err-present.field-0.0 c.in_err-present.ensures in
     let due = cut_no_voter n c.args.voter c.args.module stop.0 in
     record { answer = p.1 ∙ ap Err (p.2 ∙ stop.1) ∙ answers_refusal _ NoVoter tt due; after = after_refusal (cut c.args.voter c.args.module) n NoVoter due }
 
-pub returns-in-err-present-2 : goal.returns-in-err-present-2
-returns-in-err-present-2 c =
+pub returns-in_err-present-2 : goal.returns-in_err-present-2
+returns-in_err-present-2 c =
     let n = network c.args.self.now in
-    let p = err_from_is_err_and c.from-residual-in-err-present-2.result c.from-residual-in-err-present-2.ensures.1 in
-    let there = passed (absent (Voter c.args.voter) n) tt _ c.in-ok-present.ensures in
-    let stop = stopped (absent (Module c.args.module) n) tt c.in-err-present-2.field-0.0 c.in-err-present-2.ensures in
+    let p = err_from_is_err_and c.from_residual-in_err-present-2.result c.from_residual-in_err-present-2.ensures.1 in
+    let there = passed (absent (Voter c.args.voter) n) tt _ c.in_ok-present.ensures in
+    let stop = stopped (absent (Module c.args.module) n) tt c.in_err-present-2.field-0.0 c.in_err-present-2.ensures in
     let due = cut_no_module n c.args.voter c.args.module there stop.0 in
     record { answer = p.1 ∙ ap Err (p.2 ∙ stop.1) ∙ answers_refusal _ NoModule tt due; after = after_refusal (cut c.args.voter c.args.module) n NoModule due }
 
 pub returns-then-not-stands : goal.returns-then-not-stands
 returns-then-not-stands c =
     let n = network c.args.self.now in
-    let there = passed (absent (Voter c.args.voter) n) tt _ c.in-ok-present.ensures in
-    let fed = passed (absent (Module c.args.module) n) tt _ c.in-ok-present-2.ensures in
+    let there = passed (absent (Voter c.args.voter) n) tt _ c.in_ok-present.ensures in
+    let fed = passed (absent (Module c.args.module) n) tt _ c.in_ok-present-2.ensures in
     let due = cut_none n c.args.voter c.args.module there fed (sym c.stands.ensures ∙ c.if-not-stands.true) in
     record { answer = answers_refusal _ NoLink tt due; after = after_refusal (cut c.args.voter c.args.module) n NoLink due }
 
@@ -42,13 +42,13 @@ done : (c : goal.After-without-self) → (refusal (cut c.args.voter c.args.modul
 done c =
     let s = c.args.self.now in
     let n = network s in
-    let there = passed (absent (Voter c.args.voter) n) tt _ c.in-ok-present.ensures in
-    let fed = passed (absent (Module c.args.module) n) tt _ c.in-ok-present-2.ensures in
+    let there = passed (absent (Voter c.args.voter) n) tt _ c.in_ok-present.ensures in
+    let fed = passed (absent (Module c.args.module) n) tt _ c.in_ok-present-2.ensures in
     let due = cut_free n c.args.voter c.args.module there fed (sym c.stands.ensures ∙ c.if-not-stands.false) in
     (due, cut_after n c.args.voter c.args.module _ due c.without-self.ensures)
 
-pub invariant-of-self : goal.invariant-of-self
-invariant-of-self c = (still_within (cut c.args.voter c.args.module) (network c.args.self.now) _ c.args.self.now.limits (done c).1, tt)
+pub invariant_of-self : goal.invariant_of-self
+invariant_of-self c = (still_within (cut c.args.voter c.args.module) (network c.args.self.now) _ c.args.self.now.limits (done c).1, tt)
 
 pub returns : goal.returns
 returns c = let d = done (goal.at.returns c).After-without-self in record { answer = answers_value _ tt d.0; after = d.1 }

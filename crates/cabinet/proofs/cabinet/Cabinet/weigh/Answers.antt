@@ -15,16 +15,16 @@ use Rattle.cabinet.specs.Cabinets.{network}
 use Rattle.cabinet.proofs.Weighed.{weighed_all}
 use Rattle.cabinet.proofs.cabinet.Cabinet.weigh.Goals as goal
 
-pub overflow-add-voter-count : goal.overflow-add-voter-count
-overflow-add-voter-count g c = let l = limits (network c.args.self.now) c.args.self.now.limits in omega (arith, l.few_voters, l.few_modules, c.len-voter-count.ensures, c.len.ensures)
+pub overflow_add-voter_count : goal.overflow_add-voter_count
+overflow_add-voter_count g c = let l = limits (network c.args.self.now) c.args.self.now.limits in omega (arith, l.few_voters, l.few_modules, c.len-voter_count.ensures, c.len.ensures)
 
-pub returns-then-weights-voter-count : goal.returns-then-weights-voter-count
-returns-then-weights-voter-count g c =
+pub returns-then-weights-voter_count : goal.returns-then-weights-voter_count
+returns-then-weights-voter_count g c =
     let w = g.W.Weight in
     let n = network c.args.self.now in
     let ws = read_all w.value c.args.weights.now in
     let long : length ws ≡ length c.args.weights.now = length-map c.args.weights.now (read w.value) in
-    let other : length ws ≡ voter_count n + module_count n → ⊥ = λ e. c.if-weights-voter-count.true (omega (arith, e, long, c.len-voter-count.ensures, c.len.ensures)) in
+    let other : length ws ≡ voter_count n + module_count n → ⊥ = λ e. c.if-weights-voter_count.true (omega (arith, e, long, c.len-voter_count.ensures, c.len.ensures)) in
     sym (ap (λ o. answered o (by_cells w.kind n ws)) (hit (weights_mismatch (length ws) n) [] (ap not (ne_eqb (length ws) (voter_count n + module_count n) other))))
 
 pub returns : goal.returns
@@ -33,7 +33,7 @@ returns g c =
     let n = network c.args.self.now in
     let ws = read_all w.value c.args.weights.now in
     let long : length ws ≡ length c.args.weights.now = length-map c.args.weights.now (read w.value) in
-    let as_many : length c.args.weights.now ≡ voter_count n + module_count n = omega (arith, c.if-weights-voter-count.false, c.len-voter-count.ensures, c.len.ensures) in
+    let as_many : length c.args.weights.now ≡ voter_count n + module_count n = omega (arith, c.if-weights-voter_count.false, c.len-voter_count.ensures, c.len.ensures) in
     let rows = c.args.weights.now in
-    ap Ok (weighed_all n _ (ap (map shown) c.as-slice.ensures ∙ c.cells-list.ensures) w.kind w.value c.args.weights.now _ _ _ as_many (ap (λ v. take v rows) c.len-voter-count.ensures) (take_all (length rows - c.len-voter-count.result) (drop c.len-voter-count.result rows) (omega (arith, length-drop c.len-voter-count.result rows)) ∙ ap (λ v. drop v rows) c.len-voter-count.ensures) c.weigh-cells.ensures)
+    ap Ok (weighed_all n _ (ap (map shown) c.as_slice.ensures ∙ c.cells-list.ensures) w.kind w.value c.args.weights.now _ _ _ as_many (ap (λ v. take v rows) c.len-voter_count.ensures) (take_all (length rows - c.len-voter_count.result) (drop c.len-voter_count.result rows) (omega (arith, length-drop c.len-voter_count.result rows)) ∙ ap (λ v. drop v rows) c.len-voter_count.ensures) c.weigh_cells.ensures)
     ∙ sym (ap (λ o. answered o (by_cells w.kind n ws)) (miss (weights_mismatch (length ws) n) [] (ap not (eq-eqb (length ws) (voter_count n + module_count n) (long ∙ as_many)))))

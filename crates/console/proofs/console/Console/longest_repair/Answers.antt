@@ -10,6 +10,6 @@ use Rattle.console.proofs.console.Console.longest_repair.Goals as goal
 pub returns : goal.returns
 unfolding longest_repair
 returns c =
-    let count = c.trio-count.result in
+    let count = c.trio_count.result in
     uniform_total durations duration_value (network_in c.args.self.now) (Lasts 0) (Lasts c.args.hours) _ 31 count c.total.ensures
-    (ap (λ e. take count (replicate 31 e)) c.entry-of-weights.ensures) c.trio-count.ensures.few c.trio-count.ensures.value
+    (ap (λ e. take count (replicate 31 e)) c.entry_of-weights.ensures) c.trio_count.ensures.few c.trio_count.ensures.value

@@ -4,8 +4,8 @@ use Rattle.network.proofs.Keeps.{limits}
 use Rattle.console.specs.Consoles.{network_in}
 use Rattle.console.proofs.console.Console.trio_count.Goals as goal
 
-pub overflow-add-result : goal.overflow-add-result
-overflow-add-result c =
+pub overflow_add-result : goal.overflow_add-result
+overflow_add-result c =
     let l = limits (network_in c.args.self.now) c.args.self.now.cabinet.limits in
     omega (arith, l.few_voters, l.few_modules, c.voter_count.ensures, c.module_count.ensures)
 

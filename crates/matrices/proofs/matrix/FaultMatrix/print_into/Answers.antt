@@ -8,20 +8,20 @@ pub loop-place-init : goal.loop-place-init
 loop-place-init c =
     let xs = c.args.self.now.entries in
     let end =
-    c.unwrap-or-end.ensures
-    ∙ ends c.put-decimal.result 0 0 (decimal (get_or xs 0 0)) c.args.buffer.now c.put-decimal.ensures.value (room_first xs (length c.args.buffer.now) (search rules) c.requires) in
+    c.unwrap_or-end.ensures
+    ∙ ends c.put_decimal.result 0 0 (decimal (get_or xs 0 0)) c.args.buffer.now c.put_decimal.ensures.value (room_first xs (length c.args.buffer.now) (search rules) c.requires) in
     (omega (arith, ap length (front_first xs (search rules))), λ b room first. first)
 
-pub put-after-space-end-requires : goal.put-after-space-end-requires
-put-after-space-end-requires c =
+pub put_after_space-end-requires : goal.put_after_space-end-requires
+put_after_space-end-requires c =
     omega (arith, c.loop-place.invariant.0, room_more c.args.self.now.entries c.loop-place.place (length c.loop-place.buffer) (omega arith) (omega arith) (search rules) (omega arith))
 
 pub loop-place-preserved : goal.loop-place-preserved
 loop-place-preserved c = (
   omega (arith, c.loop-place.invariant.0, length_front_more c.args.self.now.entries c.loop-place.place (omega arith) (omega arith) (search rules)),
   λ b room first.
-      printed_more c.args.self.now.entries c.loop-place.place c.loop-place.end b c.loop-place.buffer c.put-after-space-end.new.buffer
-      (omega arith) (omega arith) (search rules) room c.loop-place.invariant.0 (c.loop-place.invariant.1 b room first) c.put-after-space-end.ensures.after,
+      printed_more c.args.self.now.entries c.loop-place.place c.loop-place.end b c.loop-place.buffer c.put_after_space-end.new.buffer
+      (omega arith) (omega arith) (search rules) room c.loop-place.invariant.0 (c.loop-place.invariant.1 b room first) c.put_after_space-end.ensures.after,
 )
 
 pub returns : goal.returns
@@ -30,5 +30,5 @@ returns c =
     let all = front_all xs c.loop-place.place (omega arith) in
     record {
       value = c.loop-place.invariant.0 ∙ ap length all;
-      after = c.loop-place.invariant.1 c.args.buffer.now c.requires (printed_first xs c.args.buffer.now c.put-decimal.new.buffer (search rules) c.requires c.put-decimal.ensures.after) ∙ ap (λ t. placed 0 t c.args.buffer.now) all;
+      after = c.loop-place.invariant.1 c.args.buffer.now c.requires (printed_first xs c.args.buffer.now c.put_decimal.new.buffer (search rules) c.requires c.put_decimal.ensures.after) ∙ ap (λ t. placed 0 t c.args.buffer.now) all;
     }

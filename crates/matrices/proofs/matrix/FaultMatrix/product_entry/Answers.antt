@@ -9,7 +9,7 @@ loop-a-init c = summed_none (times_row c.args.self.now.entries c.args.other.now.
 pub loop-a-preserved : goal.loop-a-preserved
 loop-a-preserved c =
     summed_more (times_row c.args.self.now.entries c.args.other.now.entries c.args.i c.args.j)
-    c.loop-a.a c.loop-a.total _ c.loop-a.invariant c.row-product-total.ensures
+    c.loop-a.a c.loop-a.total _ c.loop-a.invariant c.row_product-total.ensures
 
 pub returns : goal.returns
 returns c = entry_value c.args.self.now.entries c.args.other.now.entries c.args.i c.args.j c.loop-a.a c.loop-a.total (omega arith) c.loop-a.invariant

@@ -9,6 +9,6 @@ returns c =
     let n = c.args.self.now.n in
     let digits : decimal n ≡ decimal (n % count_limit) = ap decimal (omega arith) in
     record {
-      value = printed_answer digits _ c.put-decimal.ensures.value c.ok-or.ensures.value;
-      after = printed_buffer digits _ c.put-decimal.ensures.after;
+      value = printed_answer digits _ c.put_decimal.ensures.value c.ok_or.ensures.value;
+      after = printed_buffer digits _ c.put_decimal.ensures.after;
     }

@@ -10,14 +10,14 @@ returns c = elim c.match-self.branch [
   | in-Never w ↦
       let dash : 45 ∷ [] ≡ duration_print (duration_value c.args.self.now) = ap (λ h. duration_print (duration_value h)) (sym w.in-Never.is) in
       record {
-        value = printed_answer dash _ (w.end-is ∙ w.put-end.ensures.value) c.ok-or.ensures.value;
+        value = printed_answer dash _ (w.end-is ∙ w.put-end.ensures.value) c.ok_or.ensures.value;
         after = printed_buffer dash _ (w.buffer-is ∙ w.put-end.ensures.after);
       }
   | in-Lasts w ↦
       let digits : decimal w.from.result ≡ duration_print (duration_value c.args.self.now) =
       ap decimal (omega arith) ∙ ap (λ h. duration_print (duration_value h)) (sym w.in-Lasts.is) in
       record {
-        value = printed_answer digits _ (w.end-is ∙ w.put-decimal-end.ensures.value) c.ok-or.ensures.value;
-        after = printed_buffer digits _ (w.buffer-is ∙ w.put-decimal-end.ensures.after);
+        value = printed_answer digits _ (w.end-is ∙ w.put_decimal-end.ensures.value) c.ok_or.ensures.value;
+        after = printed_buffer digits _ (w.buffer-is ∙ w.put_decimal-end.ensures.after);
       }
 ]

@@ -8,6 +8,6 @@ pub returns : goal.returns
 returns c =
     let digits : decimal c.of-least.result.n ≡ residue_print (residue_value c.args.self.now) = ap decimal c.of-least.ensures in
     record {
-      value = printed_answer digits _ c.put-decimal.ensures.value c.ok-or.ensures.value;
-      after = printed_buffer digits _ c.put-decimal.ensures.after;
+      value = printed_answer digits _ c.put_decimal.ensures.value c.ok_or.ensures.value;
+      after = printed_buffer digits _ c.put_decimal.ensures.after;
     }

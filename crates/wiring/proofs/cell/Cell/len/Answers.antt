@@ -3,5 +3,5 @@ use Rattle.std.proofs.Common.{arith}
 use Rattle.sets.proofs.Members.{len_bound}
 use Rattle.wiring.proofs.cell.Cell.len.Goals as goal
 
-pub overflow-add-result : goal.overflow-add-result
-overflow-add-result c = omega (arith, len_bound c.args.self.voters, len_bound c.args.self.modules)
+pub overflow_add-result : goal.overflow_add-result
+overflow_add-result c = omega (arith, len_bound c.args.self.voters, len_bound c.args.self.modules)

@@ -23,8 +23,8 @@ loop-v-preserved c =
           subst P (sym w.rows-is) (long, row_stays ls c.args.voters v c.loop-v.rows c.loop-v.invariant.1 there)
     ]
 
-pub invariant-of-result : goal.invariant-of-result
-invariant-of-result c = (c.loop-v.invariant.0, tt)
+pub invariant_of-result : goal.invariant_of-result
+invariant_of-result c = (c.loop-v.invariant.0, tt)
 
 pub returns : goal.returns
 returns c = list_restricted c.args.self.now _ c.args.voters c.loop-v.v c.loop-v-test.false c.loop-v.invariant.1

@@ -4,8 +4,8 @@ use lib.ListN.{length-replicate}
 use Rattle.wiring.specs.Tables.{codes}
 use Rattle.wiring.proofs.table.TrioTable.new.Goals as goal
 
-pub invariant-of-result : goal.invariant-of-result
-invariant-of-result g c = (length-replicate g.row.N _, (omega arith, tt))
+pub invariant_of-result : goal.invariant_of-result
+invariant_of-result g c = (length-replicate g.row.N _, (omega arith, tt))
 
 pub returns : goal.returns
 unfolding codes

@@ -15,8 +15,8 @@ loop-place-preserved c =
     filled_more (sum_entry xs ys) p _ c.loop-place.entries (omega arith) c.loop-place.invariant
     (residue_plus _ _ ∙ ap₂ counts.plus (entry_place xs p (omega arith)) (entry_place ys p (omega arith)))
 
-pub invariant-of-result : goal.invariant-of-result
-invariant-of-result c = (c.loop-place.invariant.0, tt)
+pub invariant_of-result : goal.invariant_of-result
+invariant_of-result c = (c.loop-place.invariant.0, tt)
 
 pub returns : goal.returns
 returns c = plus_value c.args.self.now.entries c.args.other.now.entries c.loop-place.entries c.loop-place.place (omega arith) c.loop-place.invariant

@@ -11,8 +11,8 @@ loop-place-preserved c =
     filled_more (times_entry c.args.self.now.entries c.args.other.now.entries)
     c.loop-place.place _ c.loop-place.entries (omega arith) c.loop-place.invariant c.product_entry.ensures
 
-pub invariant-of-result : goal.invariant-of-result
-invariant-of-result c = (c.loop-place.invariant.0, tt)
+pub invariant_of-result : goal.invariant_of-result
+invariant_of-result c = (c.loop-place.invariant.0, tt)
 
 pub returns : goal.returns
 returns c = times_value c.args.self.now.entries c.args.other.now.entries c.loop-place.entries c.loop-place.place (omega arith) c.loop-place.invariant
