@@ -4,7 +4,7 @@ use Rattle.text.specs.Fields.{leading_digits, value_of}
 use Rattle.text.proofs.Digits.{length_leading_le, take_leading, leading_leading}
 use Rattle.text.proofs.Fields.{field_none, field_other, field_space, number_first_none, number_first_is}
 use Rattle.text.proofs.read_field.Goals as goal
-use Rattle.text.proofs.read_field.Goals.{in_default-via-then-line-lt1, in_default-via-else-line-lt1+in_default·}
+use Rattle.text.proofs.read_field.Goals.{in_default-via-then-line-lt1, in_default-via-else-line-lt1+in_default-1}
 
 -- what follows the first byte, as the pattern cuts it off
 abbrev after : List ℕ → List ℕ
@@ -13,7 +13,7 @@ after line = take (length line - 1) (drop 1 line)
 pub returns-in_default : goal.returns-in_default
 returns-in_default c = elim c.in_default.branch [
   | in_default-via-then-line-lt1 w ↦ sym (field_none c.args.line.now (omega (arith, ltb-true)))
-  | in_default-via-else-line-lt1+in_default· w ↦ sym (field_other c.args.line.now (omega arith))
+  | in_default-via-else-line-lt1+in_default-1 w ↦ sym (field_other c.args.line.now (omega arith))
 ]
 
 pub returns-then-count-eq0 : goal.returns-then-count-eq0
@@ -34,7 +34,7 @@ pub number_of-requires : goal.number_of-requires
 number_of-requires c =
     let digits = front (after c.args.line.now) _ _ c.split_at.ensures.front (omega arith) in
     record {
-      short = omega (arith, c.split_at.ensures.front-len);
+      short = omega (arith, c.split_at.ensures.front_len);
       all = ap leading_digits digits ∙ leading_leading (after c.args.line.now) ∙ sym digits;
     }
 
