@@ -1,7 +1,7 @@
 // Counts, which go modulo 2^64.
 ghost use Rattle.scales.specs.Counts.{counts, count_value, count_print};
 ghost use Rattle.scales.specs.CountsLemmas.{counts_laws};
-ghost use Rattle.std.proofs.Common.{ap, rules};
+ghost use Rattle.std.proofs.Common.{ap, lit<};
 
 use algebra::{Scale, Weight};
 use refusals::Refusal;
@@ -48,7 +48,7 @@ impl Scale for Count {
 
     ghost laws = { counts_laws };
 
-    ghost sign_is_ascii = { Prim.search rules };
+    ghost sign_is_ascii = { lit< tt };
 
     ghost print_of_value = { λ x y same. ap count_print same };
 

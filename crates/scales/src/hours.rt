@@ -1,7 +1,7 @@
 // Hours of repair.
 ghost use Rattle.scales.specs.Durations.{durations, duration_value, duration_print};
 ghost use Rattle.scales.specs.DurationsLemmas.{durations_laws};
-ghost use Rattle.std.proofs.Common.{ap, rules};
+ghost use Rattle.std.proofs.Common.{ap, lit<};
 
 use algebra::{Scale, Weight};
 use refusals::Refusal;
@@ -54,7 +54,7 @@ impl Scale for Hours {
 
     ghost laws = { durations_laws };
 
-    ghost sign_is_ascii = { Prim.search rules };
+    ghost sign_is_ascii = { lit< tt };
 
     ghost print_of_value = { λ x y same. ap duration_print same };
 

@@ -1,6 +1,6 @@
 // Numbers modulo 97: a scale of its own, made by what any crate can use.
 ghost use Rattle.std.specs.Prelude.{◌≡◌};
-ghost use Rattle.std.proofs.Common.{ap, lit<, rules};
+ghost use Rattle.std.proofs.Common.{ap, lit<};
 ghost use Rattle.trials.specs.Residues.{remainder, residues, residue_value, residue_print};
 ghost use Rattle.scales.specs.RemaindersLemmas.{modulo_laws};
 
@@ -59,7 +59,7 @@ impl Scale for Residue {
 
     ghost laws = { modulo_laws 97 (lit< tt) };
 
-    ghost sign_is_ascii = { Prim.search rules };
+    ghost sign_is_ascii = { lit< tt };
 
     ghost print_of_value = { λ x y same. ap residue_print same };
 

@@ -2,7 +2,7 @@
 ghost use Rattle.matrices.specs.FaultMatrices.{fault_matrices, matrix_print};
 ghost use Rattle.matrices.specs.Values.{matrix_value};
 ghost use Rattle.matrices.specs.FaultMatricesLemmas.{fault_matrices_laws};
-ghost use Rattle.std.proofs.Common.{ap, rules, arith};
+ghost use Rattle.std.proofs.Common.{ap, lit<};
 
 use super::{COLUMNS, FaultMatrix, PLACES};
 use algebra::{Scale, Weight};
@@ -47,7 +47,7 @@ impl Scale for FaultMatrix {
 
     ghost laws = { fault_matrices_laws };
 
-    ghost sign_is_ascii = { first_of (Prim.search rules, Prim.grind (arith, Self.row.coded.inj)) };
+    ghost sign_is_ascii = { lit< tt };
 
     ghost print_of_value = { λ x y same. ap matrix_print same };
 

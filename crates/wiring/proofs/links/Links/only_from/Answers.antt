@@ -24,7 +24,7 @@ loop-v-preserved c =
     ]
 
 pub invariant_of-result : goal.invariant_of-result
-invariant_of-result c = (c.loop-v.invariant.0, tt)
+invariant_of-result c = record { long = c.loop-v.invariant.0 }
 
 pub returns : goal.returns
 returns c = list_restricted c.args.self.now _ c.args.voters c.loop-v.v c.loop-v-test.false c.loop-v.invariant.1

@@ -5,7 +5,7 @@ use Rattle.wiring.specs.Tables.{codes}
 use Rattle.wiring.proofs.table.TrioTable.new.Goals as goal
 
 pub invariant_of-result : goal.invariant_of-result
-invariant_of-result g c = (length-replicate g.row.N _, (omega arith, tt))
+invariant_of-result g c = record { long = length-replicate g.row.N _; fits = omega arith }
 
 pub returns : goal.returns
 unfolding codes

@@ -16,7 +16,7 @@ loop-place-preserved c =
     (residue_plus _ _ ∙ ap₂ counts.plus (entry_place xs p (omega arith)) (entry_place ys p (omega arith)))
 
 pub invariant_of-result : goal.invariant_of-result
-invariant_of-result c = (c.loop-place.invariant.0, tt)
+invariant_of-result c = record { long = c.loop-place.invariant.0 }
 
 pub returns : goal.returns
 returns c = plus_value c.args.self.now.entries c.args.other.now.entries c.loop-place.entries c.loop-place.place (omega arith) c.loop-place.invariant

@@ -12,7 +12,7 @@ loop-place-preserved c =
     c.loop-place.place _ c.loop-place.entries (omega arith) c.loop-place.invariant c.product_entry.ensures
 
 pub invariant_of-result : goal.invariant_of-result
-invariant_of-result c = (c.loop-place.invariant.0, tt)
+invariant_of-result c = record { long = c.loop-place.invariant.0 }
 
 pub returns : goal.returns
 returns c = times_value c.args.self.now.entries c.args.other.now.entries c.loop-place.entries c.loop-place.place (omega arith) c.loop-place.invariant
