@@ -10,7 +10,7 @@ use Rattle.cabinet.proofs.cabinet.Cabinet.add_voter.Goals as goal
 pub invariant_of-self : goal.invariant_of-self
 invariant_of-self c =
     let s = c.args.self.now in
-    (still_within (add_voter c.args.code) (network s) _ s.limits (added_voter s.voters s.modules s.links c.args.code c.push.new.self c.push.result c.push.ensures.value c.push.ensures.after), tt)
+    record { limits = still_within (add_voter c.args.code) (network s) _ s.limits (added_voter s.voters s.modules s.links c.args.code c.push.new.self c.push.result c.push.ensures.value c.push.ensures.after) }
 
 pub returns-then-not-push : goal.returns-then-not-push
 returns-then-not-push c =

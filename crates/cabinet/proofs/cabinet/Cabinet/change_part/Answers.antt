@@ -36,10 +36,10 @@ module_done c =
     subst P (sym c.in-Module.is) (relabelled_module s.voters s.modules s.links c.in-Module.m c.args.code c.relabel-in-Module.new.self (rw c.in-Module.is at there) c.relabel-in-Module.ensures.after)
 
 pub invariant_of-self : goal.invariant_of-self
-invariant_of-self c = (still_within (change_part c.args.trio c.args.code) (network c.args.self.now) _ c.args.self.now.limits (voter_done c), tt)
+invariant_of-self c = record { limits = still_within (change_part c.args.trio c.args.code) (network c.args.self.now) _ c.args.self.now.limits (voter_done c) }
 
 pub invariant_of-self-in-Module : goal.invariant_of-self-in-Module
-invariant_of-self-in-Module c = (still_within (change_part c.args.trio c.args.code) (network c.args.self.now) _ c.args.self.now.limits (module_done c), tt)
+invariant_of-self-in-Module c = record { limits = still_within (change_part c.args.trio c.args.code) (network c.args.self.now) _ c.args.self.now.limits (module_done c) }
 
 pub returns-in-Voter : goal.returns-in-Voter
 unfolding refusal

@@ -48,7 +48,7 @@ done c =
     (due, cut_after n c.args.voter c.args.module _ due c.without-self.ensures)
 
 pub invariant_of-self : goal.invariant_of-self
-invariant_of-self c = (still_within (cut c.args.voter c.args.module) (network c.args.self.now) _ c.args.self.now.limits (done c).1, tt)
+invariant_of-self c = record { limits = still_within (cut c.args.voter c.args.module) (network c.args.self.now) _ c.args.self.now.limits (done c).1 }
 
 pub returns : goal.returns
 returns c = let d = done (goal.at.returns c).After-without-self in record { answer = answers_value _ tt d.0; after = d.1 }

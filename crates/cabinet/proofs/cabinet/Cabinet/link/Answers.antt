@@ -43,23 +43,23 @@ returns-then-len-gt-WIDEST c =
     let n = network s in
     let there = passed (absent (Voter c.args.voter) n) tt _ c.in_ok-present.ensures in
     let fed = passed (absent (Module c.args.module) n) tt _ c.in_ok-present-2.ensures in
-    let wide = wide_from n c.args.voter c.args.module there fed s.limits c.with_links.result c.with_links.ensures c.cell_around.result c.len.result c.cell_around.ensures c.len.ensures (omega arith) in
+    let wide = wide_from n c.args.voter c.args.module there fed s.limits c.with-links.result c.with-links.ensures c.cell_around.result c.len.result c.cell_around.ensures c.len.ensures (omega arith) in
     let due = link_wide n c.args.voter c.args.module there fed (sym c.stands.ensures ∙ c.if-stands.false) wide in
     record { answer = answers_refusal _ CellTooWide tt due; after = after_refusal (link c.args.voter c.args.module) n CellTooWide due }
 
 -- no check fails, and the new links are those with one more
-done : (c : goal.Else-len-gt-WIDEST) → (refusal (link c.args.voter c.args.module) (network c.args.self.now) ≡ None) × (with_links (link_list c.with_links.result) (network c.args.self.now) ≡ network_after (link c.args.voter c.args.module) (network c.args.self.now))
+done : (c : goal.Else-len-gt-WIDEST) → (refusal (link c.args.voter c.args.module) (network c.args.self.now) ≡ None) × (with_links (link_list c.with-links.result) (network c.args.self.now) ≡ network_after (link c.args.voter c.args.module) (network c.args.self.now))
 done c =
     let s = c.args.self.now in
     let n = network s in
     let there = passed (absent (Voter c.args.voter) n) tt _ c.in_ok-present.ensures in
     let fed = passed (absent (Module c.args.module) n) tt _ c.in_ok-present-2.ensures in
-    let narrow = narrow_from n c.args.voter c.args.module there fed s.limits c.with_links.result c.with_links.ensures c.cell_around.result c.len.result c.cell_around.ensures c.len.ensures (omega arith) in
+    let narrow = narrow_from n c.args.voter c.args.module there fed s.limits c.with-links.result c.with-links.ensures c.cell_around.result c.len.result c.cell_around.ensures c.len.ensures (omega arith) in
     let due = link_free n c.args.voter c.args.module there fed (sym c.stands.ensures ∙ c.if-stands.false) narrow in
-    (due, linked_after n c.args.voter c.args.module _ due (linked_list n c.args.voter c.args.module there fed s.limits c.with_links.result c.with_links.ensures))
+    (due, linked_after n c.args.voter c.args.module _ due (linked_list n c.args.voter c.args.module there fed s.limits c.with-links.result c.with-links.ensures))
 
 pub invariant_of-self : goal.invariant_of-self
-invariant_of-self c = (still_within (link c.args.voter c.args.module) (network c.args.self.now) _ c.args.self.now.limits (done c).1, tt)
+invariant_of-self c = record { limits = still_within (link c.args.voter c.args.module) (network c.args.self.now) _ c.args.self.now.limits (done c).1 }
 
 pub returns : goal.returns
 returns c = let d = done (goal.at.returns c).Else-len-gt-WIDEST in record { answer = answers_value _ tt d.0; after = d.1 }
