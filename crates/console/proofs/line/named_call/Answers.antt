@@ -6,65 +6,65 @@ use Rattle.console.proofs.Bounds.{one_number_most}
 use Rattle.console.proofs.Calls.{names_v, names_m, names_l, names_x, names_c, names_c_more, names_h, names_none}
 use Rattle.console.proofs.line.named_call.Goals as goal
 
-pub returns-in_err-one_number : goal.returns-in_err-one_number
-returns-in_err-one_number c =
+pub returns-in_err-one_number-in-V : goal.returns-in_err-one_number-in-V
+returns-in_err-one_number-in-V c =
     c.from_residual.ensures
-    ∙ ap (given_number AddVoter) c.in_err-one_number.ensures
+    ∙ ap (given_number AddVoter) c.in_err-one_number-in-V.ensures
     ∙ sym (names_v _ _ _ (omega arith) (omega arith))
 
 pub overflow_cast-result : goal.overflow_cast-result
-overflow_cast-result c = omega (arith, one_number_most _ _ _ (sym c.in_ok-one_number.ensures))
+overflow_cast-result c = omega (arith, one_number_most _ _ _ (sym c.in_ok-one_number-in-V.ensures))
 
-pub returns-in_ok-one_number : goal.returns-in_ok-one_number
-returns-in_ok-one_number c = ap (given_number AddVoter) c.in_ok-one_number.ensures ∙ sym (names_v _ _ _ (omega arith) (omega arith))
+pub returns-in_ok-one_number-in-V : goal.returns-in_ok-one_number-in-V
+returns-in_ok-one_number-in-V c = ap (given_number AddVoter) c.in_ok-one_number-in-V.ensures ∙ sym (names_v _ _ _ (omega arith) (omega arith))
 
-pub returns-in_err-one_number-2 : goal.returns-in_err-one_number-2
-returns-in_err-one_number-2 c =
-    c.from_residual-in_err-one_number-2.ensures
-    ∙ ap (given_number AddModule) c.in_err-one_number-2.ensures
+pub returns-in_err-one_number-in-M : goal.returns-in_err-one_number-in-M
+returns-in_err-one_number-in-M c =
+    c.from_residual-in_err-one_number-in-M.ensures
+    ∙ ap (given_number AddModule) c.in_err-one_number-in-M.ensures
     ∙ sym (names_m _ _ _ (omega arith) (omega arith))
 
 pub overflow_cast-result-in-M : goal.overflow_cast-result-in-M
-overflow_cast-result-in-M c = omega (arith, one_number_most _ _ _ (sym c.in_ok-one_number-2.ensures))
+overflow_cast-result-in-M c = omega (arith, one_number_most _ _ _ (sym c.in_ok-one_number-in-M.ensures))
 
-pub returns-in_ok-one_number-2 : goal.returns-in_ok-one_number-2
-returns-in_ok-one_number-2 c = ap (given_number AddModule) c.in_ok-one_number-2.ensures ∙ sym (names_m _ _ _ (omega arith) (omega arith))
+pub returns-in_ok-one_number-in-M : goal.returns-in_ok-one_number-in-M
+returns-in_ok-one_number-in-M c = ap (given_number AddModule) c.in_ok-one_number-in-M.ensures ∙ sym (names_m _ _ _ (omega arith) (omega arith))
 
-pub returns-in_err-voter : goal.returns-in_err-voter
-returns-in_err-voter c =
-    c.from_residual-in_err-voter.ensures
-    ∙ ap (given_pair Link) c.in_err-voter.ensures
+pub returns-in_err-voter-in-L : goal.returns-in_err-voter-in-L
+returns-in_err-voter-in-L c =
+    c.from_residual-in_err-voter-in-L.ensures
+    ∙ ap (given_pair Link) c.in_err-voter-in-L.ensures
     ∙ sym (names_l _ _ _ (omega arith) (omega arith))
 
-pub returns-in_ok-voter : goal.returns-in_ok-voter
-returns-in_ok-voter c = ap (given_pair Link) c.in_ok-voter.ensures ∙ sym (names_l _ _ _ (omega arith) (omega arith))
+pub returns-in_ok-voter-in-L : goal.returns-in_ok-voter-in-L
+returns-in_ok-voter-in-L c = ap (given_pair Link) c.in_ok-voter-in-L.ensures ∙ sym (names_l _ _ _ (omega arith) (omega arith))
 
-pub returns-in_err-voter-2 : goal.returns-in_err-voter-2
-returns-in_err-voter-2 c =
-    c.from_residual-in_err-voter-2.ensures
-    ∙ ap (given_pair Cut) c.in_err-voter-2.ensures
+pub returns-in_err-voter-in-X : goal.returns-in_err-voter-in-X
+returns-in_err-voter-in-X c =
+    c.from_residual-in_err-voter-in-X.ensures
+    ∙ ap (given_pair Cut) c.in_err-voter-in-X.ensures
     ∙ sym (names_x _ _ _ (omega arith) (omega arith))
 
-pub returns-in_ok-voter-2 : goal.returns-in_ok-voter-2
-returns-in_ok-voter-2 c = ap (given_pair Cut) c.in_ok-voter-2.ensures ∙ sym (names_x _ _ _ (omega arith) (omega arith))
+pub returns-in_ok-voter-in-X : goal.returns-in_ok-voter-in-X
+returns-in_ok-voter-in-X c = ap (given_pair Cut) c.in_ok-voter-in-X.ensures ∙ sym (names_x _ _ _ (omega arith) (omega arith))
 
 pub returns-in-empty : goal.returns-in-empty
 returns-in-empty c = sym (names_c _ _ (omega arith) (omega (arith, ltb-true)))
 
-pub returns-in_default-default : goal.returns-in_default-default
-returns-in_default-default c = sym (names_c_more _ _ (omega arith) (omega (arith, ltb-false)))
+pub returns-in_default-rest : goal.returns-in_default-rest
+returns-in_default-rest c = sym (names_c_more _ _ (omega arith) (omega (arith, ltb-false)))
 
-pub returns-in_err-one_number-3 : goal.returns-in_err-one_number-3
-returns-in_err-one_number-3 c =
-    c.from_residual-in_err-one_number-3.ensures
-    ∙ ap (given_number LongestRepair) c.in_err-one_number-3.ensures
+pub returns-in_err-one_number-in-H : goal.returns-in_err-one_number-in-H
+returns-in_err-one_number-in-H c =
+    c.from_residual-in_err-one_number-in-H.ensures
+    ∙ ap (given_number LongestRepair) c.in_err-one_number-in-H.ensures
     ∙ sym (names_h _ _ _ (omega arith) (omega arith))
 
 pub overflow_cast-result-in-H : goal.overflow_cast-result-in-H
-overflow_cast-result-in-H c = omega (arith, one_number_most _ _ _ (sym c.in_ok-one_number-3.ensures))
+overflow_cast-result-in-H c = omega (arith, one_number_most _ _ _ (sym c.in_ok-one_number-in-H.ensures))
 
-pub returns-in_ok-one_number-3 : goal.returns-in_ok-one_number-3
-returns-in_ok-one_number-3 c = ap (given_number LongestRepair) c.in_ok-one_number-3.ensures ∙ sym (names_h _ _ _ (omega arith) (omega arith))
+pub returns-in_ok-one_number-in-H : goal.returns-in_ok-one_number-in-H
+returns-in_ok-one_number-in-H c = ap (given_number LongestRepair) c.in_ok-one_number-in-H.ensures ∙ sym (names_h _ _ _ (omega arith) (omega arith))
 
 pub returns-in_default : goal.returns-in_default
 returns-in_default c = sym (names_none _ _ (omega arith) (omega arith) (omega arith) (omega arith) (omega arith) (omega arith))

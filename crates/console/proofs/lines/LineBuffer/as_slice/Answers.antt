@@ -8,4 +8,4 @@ pub returns : goal.returns
 returns c =
     let whole : c.args.self.now.len - 0 ≡ c.args.self.now.len = omega arith in
     let value = ap (λ n. take n c.args.self.now.bytes) whole in
-    record { value = value; same-call = λ line cut. ap request (value ∙ cut) ∙ request_cut line }
+    record { value = value; same_call = λ line cut. ap request (value ∙ cut) ∙ request_cut line }
