@@ -1,4 +1,6 @@
 // Kinds of weight: plus, times, nothing and unit, and the scales, which are the kinds that keep the eight laws.
+#![tactic(auto)]
+
 ghost use Rattle.std.specs.Prelude.{◌≡◌, ℕ, ◌<◌, List};
 ghost use Rattle.algebra.specs.Laws.{Kind, Laws};
 ghost use Rattle.algebra.specs.Prints.{printed_end, after_print};

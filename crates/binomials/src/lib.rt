@@ -1,1 +1,3 @@
+#![tactic(auto)]
+
 // Binomials, read from a table.

@@ -1,5 +1,5 @@
 -- What the parts of a cabinet stand for after each call.
-use Rattle.std.proofs.Common.{◌≡◌, ℕ, Bool, true, false, cond, ltb, ◌⊎◌, List, [], ◌∷◌, ◌++◌, length, set, Some, None, sym, refl, ap, ◌∙◌, subst, ⊎_elim}
+use Rattle.std.proofs.Common.{◌≡◌, ℕ, Bool, true, false, cond, ltb, List, [], ◌∷◌, ◌++◌, length, set, Some, None, sym, refl, ap, ◌∙◌, subst, ⊎_elim}
 use Rattle.std.proofs.lemmas.Bool.{cases_Bool, cond-false, cond-true, le-leb, lt-leb, ltb-false, ltb-true}
 use Rattle.network.specs.Changes.{Change, absent, add_voter, add_module, change_part, changed, network_after, refusal}
 use Rattle.network.specs.Limits.{within_limits}

@@ -1,5 +1,5 @@
 -- A cell found from links, by its sets, is the cell of the network by its lists.
-use Rattle.std.proofs.Common.{◌≡◌, ℕ, ◌<◌, ◌≤◌, Bool, true, ◌&&◌, ltb, ◌⊎◌, filter, sym, ◌∙◌, subst, ap₂, ⊎_elim, arith}
+use Rattle.std.proofs.Common.{◌≡◌, ℕ, ◌<◌, ◌≤◌, Bool, true, ◌&&◌, ltb, filter, sym, ◌∙◌, subst, ap₂, ⊎_elim, arith}
 use Rattle.std.specs.List.{range_with_len}
 use Rattle.std.proofs.lemmas.Bool.{and_parts, and_right, and_from, cases_Bool, lt-ltb, ltb-true}
 use Rattle.network.specs.Cells.{edges, members_with, modules_with, together, voters_with}

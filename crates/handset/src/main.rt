@@ -1,4 +1,6 @@
 // The handset: a line of standard input at a time, with its reply on standard output before the next is read.
+#![tactic(auto)]
+
 ghost use Rattle.std.specs.Prelude.{◌≡◌};
 ghost use Rattle.console.specs.Consoles.{network_in};
 ghost use Rattle.console.specs.Replies.{after_line};

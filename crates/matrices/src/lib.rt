@@ -1,4 +1,6 @@
 // Fault matrices: polynomials in two unknowns, of voter faults and of module faults, modulo 2^64.
+#![tactic(auto)]
+
 mod matrix;
 
 use algebra::{Scale, Weight};
@@ -23,7 +25,7 @@ mod tests {
         assert!(rt; square.write(&mut [0; 542]).is_err());
         let mut buffer = [b'-'; 544];
         assert_eq!(rt; square.write(&mut buffer).ok(), Some(543));
-        assert_eq!(rt; &buffer[62..67], b"0 1 0");
-        assert_eq!(rt; &buffer[541..], b" 0-");
+        assert_eq!(rt; &buffer[62..67], b"0 1 0".as_slice());
+        assert_eq!(rt; &buffer[541..], b" 0-".as_slice());
     }
 }

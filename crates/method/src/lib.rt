@@ -1,4 +1,6 @@
 // The cell method, and why it gives the total over all tolerated patterns.
+#![tactic(auto)]
+
 ghost use Rattle.method.specs.Agreement.{MethodAgrees};
 
 use algebra::Scale;

@@ -1,5 +1,5 @@
 -- The test `joined` says of any two trios whether a chain joins them.
-use Rattle.std.proofs.Common.{◌≡◌, true, false, ◌&&◌, ◌||◌, ◌⊎◌, List, [], ◌∷◌, sym, refl, ap, ◌∙◌, subst, inl, inr, ⊎_elim}
+use Rattle.std.proofs.Common.{◌≡◌, true, ◌&&◌, ◌||◌, ◌⊎◌, List, [], ◌∷◌, sym, refl, ap, ◌∙◌, subst, inl, inr, ⊎_elim}
 use Rattle.std.proofs.lemmas.Bool.{or_cases, or_left, or_right, and_parts, and_from, both_ways, cases_Bool, eqb-true, eq-eqb, false≢true}
 use Rattle.sets.specs.Lists.{any}
 use Rattle.network.specs.Chains.{Chain, none, more, ChainsAgree, Edge, ends_at, joined, same_trio}

@@ -1,5 +1,5 @@
 -- A cell taken by itself.
-use Rattle.std.specs.Prelude.{List, map, length, filter, slice_index}
+use Rattle.std.specs.Prelude.{map, length, filter, slice_index}
 use Rattle.network.specs.Cells.{Members}
 use Rattle.network.specs.Networks.{Link, Network, code_of, linked, pairs}
 use Rattle.network.specs.declared.Trio.TheVariants.{Voter, Module}

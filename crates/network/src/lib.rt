@@ -1,4 +1,6 @@
 // What the rules of a cabinet speak of: its trios, and theorems about them.
+#![tactic(auto)]
+
 ghost use Rattle.network.specs.Chains.{ChainsAgree};
 ghost use Rattle.network.specs.Changes.{LimitsKept};
 ghost use Rattle.network.specs.Partition.{CellsAreNumbered};

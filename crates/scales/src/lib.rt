@@ -1,4 +1,6 @@
 // Two scales: counts modulo 2^64, and hours.
+#![tactic(auto)]
+
 mod count;
 mod hours;
 

@@ -1,5 +1,7 @@
 // Sets of trio numbers. A cabinet has at most 16 trios of a kind, so a set is one word of 16 bits, and
 // each method says by membership what it answers.
+#![tactic(auto)]
+
 ghost use Rattle.std.specs.Prelude.{◌≡◌, ℕ, false, not, ◌&&◌, ◌||◌, length, ◌==◌, nat_lt};
 ghost use Rattle.sets.specs.Lists.{first_of};
 ghost use Rattle.sets.specs.Sets.{member, members, overlap};

@@ -1,4 +1,6 @@
 // Numbers and words in lines of bytes: how they are written into a buffer, and how they are read.
+#![tactic(auto)]
+
 ghost use Rattle.std.specs.Prelude.{◌≡◌, ◌≤◌, length, drop, decimal};
 ghost use Rattle.std.specs.Option.{option_map};
 ghost use Rattle.text.specs.Fields.{field, leading_digits, value_of};
@@ -107,7 +109,7 @@ mod tests {
     fn reads_one_field(rt: HostRuntime) -> Result<(), Fail> {
         let (n, rest) = read_field(b" 0012 x").ok_or("no field")?;
         assert_eq!(rt; n, 12);
-        assert_eq!(rt; rest, b" x");
+        assert_eq!(rt; rest, b" x".as_slice());
         Ok(())
     }
 }

@@ -1,4 +1,6 @@
 // Trials of the cabinet on small and on full wirings, and a scale that is made here for them.
+#![tactic(auto)]
+
 mod residue;
 
 pub use residue::Residue;

@@ -1,4 +1,6 @@
 // Weighing the fault patterns of cells by the cell method, on any kind of weight.
+#![tactic(auto)]
+
 mod cells;
 mod products;
 mod weights;

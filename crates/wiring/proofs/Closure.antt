@@ -1,5 +1,5 @@
 -- A set of trios that grows no more along the links, and holds only what chains join to its start, is the cell.
-use Rattle.std.proofs.Common.{◌≡◌, ℕ, ◌+◌, ◌≤◌, true, ◌&&◌, ◌||◌, ◌⊎◌, length, sym, refl, ◌∙◌, subst, inl, inr, ⊎_elim, arith}
+use Rattle.std.proofs.Common.{◌≡◌, ℕ, ◌+◌, ◌≤◌, true, ◌&&◌, ◌||◌, length, sym, refl, ◌∙◌, subst, inl, inr, ⊎_elim, arith}
 use Rattle.std.proofs.lemmas.Bool.{and_from, and_parts, both_ways, cases_Bool, lt-ltb, or_cases, or_left, or_right}
 use Rattle.network.specs.Chains.{Chain, none, more, ends_at, joined, same_trio}
 use Rattle.network.specs.declared.Trio.{Trio}

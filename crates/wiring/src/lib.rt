@@ -1,4 +1,6 @@
 // The parts that a cabinet is made of: the table of its trios, its links, and the cells that the links make.
+#![tactic(auto)]
+
 mod cell;
 mod links;
 mod table;
