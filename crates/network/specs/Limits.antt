@@ -1,5 +1,5 @@
 -- The limits that every cabinet keeps.
-use Rattle.std.specs.Prelude.{ℕ, Bool, ◌&&◌, leb, nat_le}
+use Rattle.std.specs.Prelude.{ℕ, Bool, ◌&&◌, nat_le}
 use Rattle.sets.specs.Lists.{all}
 use Rattle.network.specs.Cells.{width}
 use Rattle.network.specs.Networks.{Network, Link, voter_count, module_count, has_voter, has_module, rising, trios}
@@ -20,7 +20,7 @@ inside n l = has_voter n l.0 && has_module n l.1
 
 -- no cell is too wide
 abbrev pub narrow : Network → Bool
-narrow n = all (λ t. leb (width n t) widest) (trios n)
+narrow n = all (λ t. nat_le (width n t) widest) (trios n)
 
 unfoldable pub within_limits : Network → Bool
 within_limits n =

@@ -1,5 +1,5 @@
 // Fault matrices from their entries, and the entries of one.
-ghost use Rattle.std.specs.Prelude.{◌≡◌, ◌<◌, ◌&&◌, ltb, if◌then◌else◌, Some, None, nat_lt};
+ghost use Rattle.std.specs.Prelude.{◌≡◌, ◌<◌, ◌&&◌, if◌then◌else◌, Some, None, nat_lt};
 ghost use Rattle.matrices.specs.FaultMatrices.{entry_at, module_fault, powers, voter_fault};
 ghost use Rattle.matrices.specs.Values.{matrix_of, matrix_value};
 
@@ -15,7 +15,7 @@ impl FaultMatrix {
 
     // The entry for `row` voter faults and `column` module faults; none past the last row or column.
     pub fn entry(&self, row: usize, column: usize) -> Option<u64>
-        ensures { result ≡ (if ltb row 17 && nat_lt column 16 then Some (entry_at (matrix_value self.now) row column).number else None) }
+        ensures { result ≡ (if nat_lt row 17 && nat_lt column 16 then Some (entry_at (matrix_value self.now) row column).number else None) }
     {
         if row >= ROWS || column >= COLUMNS {
             return None;

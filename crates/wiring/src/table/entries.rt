@@ -1,5 +1,5 @@
 // The trios of a table, one by one.
-ghost use Rattle.std.specs.Prelude.{◌≡◌, ltb, [], ◌∷◌, ◌++◌, length, if◌then◌else◌, Some, None, nat_lt, slice_index, slice_set};
+ghost use Rattle.std.specs.Prelude.{◌≡◌, [], ◌∷◌, ◌++◌, length, if◌then◌else◌, Some, None, nat_lt, slice_index, slice_set};
 ghost use Rattle.wiring.specs.Tables.{codes};
 
 use super::{TrioRecord, TrioTable};
@@ -16,7 +16,7 @@ impl TrioRecord {
 impl<const N: usize> TrioTable<N> {
     // The code of trio `i`.
     pub fn code(&self, i: usize) -> Option<u16>
-        ensures { result ≡ (if ltb i (length (codes self.now)) then Some (slice_index (codes self.now) i) else None) }
+        ensures { result ≡ (if nat_lt i (length (codes self.now)) then Some (slice_index (codes self.now) i) else None) }
     {
         if i >= self.count {
             return None;
