@@ -8,7 +8,7 @@ ghost use Rattle.console.specs.Replies.{after_line};
 use anyhow::anyhow;
 use console::Console;
 use console::lines::LineBuffer;
-use std::io::{BufReader, Read, Write};
+use std::io::{Read, Write};
 
 // The longest reply has room.
 const REPLY_ROOM: usize = 64;
@@ -30,7 +30,7 @@ fn run(rt: &HostRuntime) -> anyhow::Result<()> {
     let mut console = Console::new();
     let mut out = rt.stdout();
     let mut lines = LineBuffer::new();
-    for byte in BufReader::new(rt.alloc(), rt.stdin())?.bytes() {
+    for byte in rt.stdin().bytes() {
         if let Some(line) = lines.accept(byte?) {
             answer(&mut console, line.as_slice(), &mut out)?;
         }

@@ -1,3 +1,3 @@
--- The laws of polynomials and matrices; other crates may cite them.
+-- How matrices are printed, and what their entries stand for; other crates may cite it.
 pub mod Prints
 pub mod Values

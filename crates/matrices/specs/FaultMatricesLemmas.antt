@@ -49,7 +49,7 @@ pub plus_entries : (v w : fault_matrices.Value) → fault_matrices.plus v w ≡ 
 unfolding entry_at matrix fault_matrices fault_rows
 plus_entries v w = refl
 
--- the entries of a product are those of `product-entry`
+-- the entries of a product are those of `product_entry`
 pub times_entries : (v w : fault_matrices.Value) → fault_matrices.times v w ≡ matrix (product_entry (entry_at v) (entry_at w))
 unfolding entry_at matrix fault_matrices fault_rows product_entry row_product product_at
 times_entries v w = table_same 17 _ _ (λ i row.

@@ -3,7 +3,6 @@
 
 mod matrix;
 
-use algebra::{Scale, Weight};
 pub use matrix::FaultMatrix;
 
 #[cfg(test)]

@@ -4,7 +4,6 @@
 mod count;
 mod hours;
 
-use algebra::{Scale, Weight};
 pub use count::Count;
 pub use hours::Hours;
 
