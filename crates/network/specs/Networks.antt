@@ -2,12 +2,17 @@
 use Rattle.std.specs.Prelude.{ℕ, Bool, true, cond, not, ◌&&◌, ◌||◌, List, [], ◌∷◌, ◌++◌, map, length, filter, ◌==◌, nat_lt, slice_index}
 use Rattle.std.specs.List.{range_with_len, flat_map}
 use Rattle.sets.specs.Lists.{all, any}
+use Rattle.network.specs.declared.Link.{Link as Ends}
 use Rattle.network.specs.declared.Trio.{Trio}
 use Rattle.network.specs.declared.Trio.TheVariants.{Voter, Module}
 
 -- A link: the number of the voter trio, and of the module trio that it feeds, A to A, B to B and C to C.
 abbrev pub Link : Type 0
 Link = ℕ × ℕ
+
+-- the link that a value of the code names
+abbrev pub link_of : Ends → Link
+link_of ends = (ends.voter, ends.«module»)
 
 -- The part codes of the voter trios and of the module trios, each by number, and the links in order. Since the
 -- links are in order, a network can be written in one way only.

@@ -12,6 +12,13 @@ pub enum Trio {
     Module(usize),
 }
 
+// A link: each copy of the voter trio feeds the copy of the module trio in the same position.
+#[derive(Clone, Copy, PartialEq, Eq, Debug)]
+pub struct Link {
+    pub voter: usize,
+    pub module: usize,
+}
+
 // Two trios are joined by a chain of links exactly where the test `joined` says so.
 pub fn chains_agree()
     ensures { ChainsAgree }

@@ -7,7 +7,7 @@ use lib.Count.{ones, ones_step, count_trailing_zeros, under}
 use lib.Dec.{eqb-zero-suc, eqb-suc-zero, eqb-suc-suc}
 use Rattle.std.specs.List.{range_with_len}
 use Rattle.std.proofs.lemmas.Nat.{shr-shr, shr_below, mod_below, and_shr, or_shr, xor_shr, and_mod, or_mod, xor_mod}
-use Rattle.std.proofs.lemmas.Bool.{le-ltb, lt-ltb}
+use Rattle.std.proofs.lemmas.Bool.{false≢true, le-ltb, lt-ltb}
 use Rattle.std.proofs.lemmas.Bool.Decides.{nat_tests}
 use Rattle.sets.specs.Lists.{any, first_of}
 
@@ -20,6 +20,23 @@ bit_zero n = ap (λ x. eqb (x % 2) 1) (div-one n)
 
 bit_step : (n k : ℕ) → bit n (suc k) ≡ bit (n / 2) k
 bit_step n k = ap (λ j. bit n j) (sym (one-add k)) ∙ ap (λ x. eqb (x % 2) 1) (sym (shr-shr n 1 k))
+
+-- words with the same bits are the same
+pub bits_same : (n a b : ℕ) → a < 2 ^ n → b < 2 ^ n → ((k : ℕ) → k < n → bit a k ≡ bit b k) → a ≡ b
+bits_same zero a b ha hb same = omega arith
+bits_same (suc n) a b ha hb same =
+    let halves : a / 2 ≡ b / 2 = bits_same n (a / 2) (b / 2) (omega arith) (omega arith) (λ k h. sym (bit_step a k) ∙ same (suc k) (omega arith) ∙ bit_step b k) in
+    let last : a % 2 ≡ b % 2 = lasts (a % 2) (b % 2) (omega arith) (omega arith) (sym (bit_zero a) ∙ same 0 (omega arith) ∙ bit_zero b) in
+    omega (arith, halves, last)
+  where
+    lasts : (x y : ℕ) → x < 2 → y < 2 → eqb x 1 ≡ eqb y 1 → x ≡ y
+    lasts zero zero p q e = refl
+    lasts zero (suc zero) p q e = absurd (false≢true e)
+    lasts zero (suc (suc y)) p q e = absurd (omega arith)
+    lasts (suc zero) zero p q e = absurd (false≢true (sym e))
+    lasts (suc zero) (suc zero) p q e = refl
+    lasts (suc zero) (suc (suc y)) p q e = absurd (omega arith)
+    lasts (suc (suc x)) y p q e = absurd (omega arith)
 
 pub bit_none : (k : ℕ) → bit 0 k ≡ false
 bit_none k = ap (λ x. eqb (x % 2) 1) (zero-div (2 ^ k))

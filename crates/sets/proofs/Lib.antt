@@ -2,3 +2,4 @@
 pub mod Digits
 pub mod Kept
 pub mod Members
+pub mod Through

@@ -1,12 +1,12 @@
 -- What is in a set, and how many: from member to members and back.
-use Rattle.std.proofs.Common.{◌≡◌, ℕ, ◌+◌, ◌-◌, ◌<◌, ◌≤◌, Bool, true, false, ◌&&◌, eqb, ltb, ◌++◌, length, Some, None, filter, sym, ap, ◌∙◌, inl, inr, append-nil, arith}
+use Rattle.std.proofs.Common.{◌≡◌, ℕ, ◌+◌, ◌-◌, ◌^◌, ◌<◌, ◌≤◌, Bool, true, false, ◌&&◌, eqb, ltb, ◌++◌, length, Some, None, filter, sym, ap, ◌∙◌, inl, inr, append-nil, arith}
 use Rattle.std.specs.List.{range_with_len}
 use Rattle.std.proofs.lemmas.List.Elements.{filter-append}
 use Rattle.std.proofs.lemmas.Bool.{lt-ltb, le-ltb, ltb-true, and_left, and_parts, cases_lt}
 use Rattle.sets.specs.declared.TrioSet.{TrioSet}
 use Rattle.sets.specs.Lists.{any, first_of}
 use Rattle.sets.specs.Sets.{member, members}
-use Rattle.sets.proofs.Digits.{bit, Tells}
+use Rattle.sets.proofs.Digits.{bit, bits_same, Tells}
 use Rattle.sets.proofs.Kept.{in_kept, length_kept_le, kept_more, kept_full_below, kept_none, kept_first, kept_first_none, counting_split}
 
 pub member_past : (s : TrioSet) (i : ℕ) → 16 ≤ i → member s i ≡ false
@@ -26,6 +26,12 @@ member_bit s i h = ap (λ b. b && bit s.bits i) (lt-ltb i 16 h)
 -- the members are the bits of the word
 pub word_tells : (s : TrioSet) → Tells (member s) 0 16 s.bits
 word_tells s k h = let e : 0 + k ≡ k = omega arith in ap (member s) e ∙ member_bit s k h
+
+-- sets with the same members are the same
+pub set_same : (s t : TrioSet) → s.bits < 2 ^ 16 → t.bits < 2 ^ 16 → ((k : ℕ) → member s k ≡ member t k) → s ≡ t
+set_same s t hs ht same =
+    let bits = bits_same 16 s.bits t.bits hs ht (λ k h. sym (member_bit s k h) ∙ same k ∙ member_bit t k h) in
+    ap (λ (b : ℕ). record { bits = b }) bits
 
 pub len_bound : (s : TrioSet) → length (members s) ≤ 16
 unfolding members

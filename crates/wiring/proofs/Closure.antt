@@ -1,6 +1,6 @@
 -- A set of trios that grows no more along the links, and holds only what chains join to its start, is the cell.
-use Rattle.std.proofs.Common.{◌≡◌, ℕ, ◌+◌, ◌≤◌, true, ◌&&◌, ◌||◌, length, sym, refl, ◌∙◌, subst, inl, inr, ⊎_elim, arith}
-use Rattle.std.proofs.lemmas.Bool.{and_from, and_parts, both_ways, cases_Bool, lt-ltb, or_cases, or_left, or_right}
+use Rattle.std.proofs.Common.{◌≡◌, ℕ, ◌+◌, ◌^◌, ◌<◌, ◌≤◌, Bool, true, false, ◌&&◌, ◌||◌, eqb, length, sym, refl, ap, ap₂, ◌∙◌, subst, inl, inr, ⊎_elim, arith}
+use Rattle.std.proofs.lemmas.Bool.{and_from, and_parts, both_ways, cases_Bool, cases_lt, eq-eqb, eqb-true, false≢true, lt-ltb, or_cases, or_left, or_right}
 use Rattle.network.specs.Chains.{Chain, none, more, ends_at, joined, same_trio}
 use Rattle.network.specs.declared.Trio.{Trio}
 use Rattle.network.specs.declared.Trio.TheVariants.{Voter, Module}
@@ -8,8 +8,9 @@ use Rattle.network.proofs.Chains.{chain_from_joined, joined_beside, joined_itsel
 use Rattle.network.proofs.Inside.{link_step, step_link}
 use Rattle.sets.specs.Lists.{any}
 use Rattle.sets.specs.Sets.{member, members}
+use Rattle.sets.specs.declared.TrioSet.{TrioSet}
 use Rattle.sets.proofs.Kept.{any_below_from, any_below_true}
-use Rattle.sets.proofs.Members.{full_subset, len_bound, member_below, subset_len}
+use Rattle.sets.proofs.Members.{full_subset, len_bound, member_below, set_same, subset_len}
 use Rattle.wiring.specs.CellSets.{holds, in_range}
 use Rattle.wiring.specs.Wires.{edge_list, fed_by_some, feeds, feeds_some, link_list}
 use Rattle.wiring.specs.declared.cell.Cell.{Cell}
@@ -35,6 +36,19 @@ Only t cell = (u : Trio) → holds cell u ≡ (in_range u && same_trio t u)
 
 abbrev pub size : Cell → ℕ
 size cell = length (members cell.voters) + length (members cell.modules)
+
+-- its sets are words of 16 bits
+abbrev pub Fits : Cell → Type 0
+Fits cell = (cell.voters.bits < 2 ^ 16) × (cell.modules.bits < 2 ^ 16)
+
+-- the test that the code makes
+abbrev pub same_words : Cell → Cell → Bool
+same_words c d = eqb c.voters.bits d.voters.bits && eqb c.modules.bits d.modules.bits
+
+both_same : (a b : Bool) → (a ≡ true → b ≡ true) → (b ≡ true → a ≡ true) → a ≡ b
+both_same true b f g = sym (f refl)
+both_same false true f g = absurd (false≢true (g refl))
+both_same false false f g = refl
 
 -- feeding is a step both ways
 step_down : (ls : Links) (v m : ℕ) → feeds ls v m ≡ true → joined (edge_list ls) (Voter v) (Module m) ≡ true
@@ -132,12 +146,42 @@ module _ (ls : Links) (t : Trio) (cell next : Cell) (grows : Grows ls cell next)
     holds_range (Voter v) h = lt-ltb v 16 (member_below cell.voters v h)
     holds_range (Module m) h = lt-ltb m 16 (member_below cell.modules m h)
 
+    same_voters : (k : ℕ) → member next.voters k ≡ member cell.voters k
+    same_voters k = both_same _ _ (back_voters k) (more_voters k)
+
+    same_modules : (k : ℕ) → member next.modules k ≡ member cell.modules k
+    same_modules k = both_same _ _ (back_modules k) (more_modules k)
+
+    -- and it is the same set
+    pub same_cell : Fits next → Fits cell → next ≡ cell
+    same_cell hn hc =
+        ap₂ (λ (vs ms : TrioSet). record { voters = vs; modules = ms })
+        (set_same next.voters cell.voters hn.0 hc.0 same_voters) (set_same next.modules cell.modules hn.1 hc.1 same_modules)
+
     pub is_cell : Sound ls t cell → Started t cell → (u : Trio) → holds cell u ≡ (in_range u && joined (edge_list ls) t u)
     is_cell sound start u =
         ⊎_elim
         (λ h. h ∙ sym (and_from _ _ (holds_range u h) (sound u h)))
         (λ h. h ∙ sym (⊎_elim (λ p. let both = and_parts (in_range u) (joined (edge_list ls) t u) p in absurd (both_ways (holds cell u) h (reached start u both.0 (chain_from_joined (edge_list ls) t u both.1)))) (λ p. p) (cases_Bool (in_range u && joined (edge_list ls) t u))))
         (cases_Bool (holds cell u))
+
+module _ (ls : Links) (t : Trio) (cell next : Cell) (grows : Grows ls cell next) where
+  -- where the words are the same, nothing was added
+  pub grown_full : same_words next cell ≡ true → size next ≤ size cell
+  grown_full same =
+      let both = and_parts _ _ same in
+      let voters : next.voters ≡ cell.voters = ap (λ (b : ℕ). record { bits = b }) (eqb-true _ _ both.0) in
+      let modules : next.modules ≡ cell.modules = ap (λ (b : ℕ). record { bits = b }) (eqb-true _ _ both.1) in
+      omega (arith, ap (λ (s : TrioSet). length (members s)) voters, ap (λ (s : TrioSet). length (members s)) modules)
+
+  -- and else something was
+  pub grown_more : Fits next → Fits cell → same_words next cell ≡ false → size cell < size next
+  grown_more hn hc other = elim (cases_lt (size cell) (size next)) [
+    | inl grew ↦ grew
+    | inr full ↦
+        let same = same_cell ls t cell next grows full hn hc in
+        absurd (both_ways (same_words next cell) other (and_from _ _ (eq-eqb _ _ (ap (λ (c : Cell). c.voters.bits) same)) (eq-eqb _ _ (ap (λ (c : Cell). c.modules.bits) same))))
+  ]
 
 -- one trio alone
 pub only_sound : (ls : Links) (t : Trio) (cell : Cell) → Only t cell → Sound ls t cell

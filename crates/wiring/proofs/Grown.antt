@@ -1,33 +1,13 @@
 -- Growing a set of trios along the links until nothing is added gives the cell.
 use Rattle.std.proofs.Common.{◌≡◌, ℕ, ◌+◌, ◌<◌, Bool, true, false, ◌&&◌, ◌||◌, eqb, ltb, get_or, sym, refl, ap, ◌∙◌, ⊎_elim, arith}
-use Rattle.std.specs.List.{range_with_len}
 use Rattle.std.proofs.lemmas.Bool.{and_from, and_parts, and_right, cases_Bool, cases_eq, lt-ltb}
 use Rattle.std.proofs.lemmas.Bool.Decides.{nat_tests}
-use Rattle.sets.specs.Lists.{any}
 use Rattle.sets.specs.Sets.{member, overlap}
 use Rattle.sets.specs.declared.TrioSet.{TrioSet}
-use Rattle.sets.proofs.Kept.{any_below_more, any_below_true}
+use Rattle.sets.proofs.Kept.{any_below_true}
 use Rattle.wiring.specs.Wires.{feeds, feeds_some, no_row}
 use Rattle.wiring.specs.declared.links.Links.{Links}
 use Rattle.wiring.proofs.Rows.{feeds_range}
-
--- the modules fed by those voters of the set that are below n
-abbrev pub fed_so_far : Links → TrioSet → ℕ → ℕ → Bool
-fed_so_far ls voters n m = any (λ v. member voters v && feeds ls v m) (range_with_len 0 n)
-
-module _ (ls : Links) (voters fed : TrioSet) (n : ℕ) (so_far : (m : ℕ) → member fed m ≡ fed_so_far ls voters n m) where
-  -- voter n is in the set: its row is joined to what is fed
-  pub fed_more : (next : TrioSet) → member voters n ≡ true → ((m : ℕ) → member next m ≡ (member fed m || feeds ls n m)) → (m : ℕ) → member next m ≡ fed_so_far ls voters (n + 1) m
-  fed_more next there joined m =
-      joined m ∙ ap (λ b. b || feeds ls n m) (so_far m) ∙ sym (any_below_more (λ v. member voters v && feeds ls v m) n ∙ ap (λ b. fed_so_far ls voters n m || (b && feeds ls n m)) there)
-
-  -- voter n is not in the set
-  pub fed_same : member voters n ≡ false → (m : ℕ) → member fed m ≡ fed_so_far ls voters (n + 1) m
-  fed_same gone m = so_far m ∙ sym (any_below_more (λ v. member voters v && feeds ls v m) n ∙ ap (λ b. fed_so_far ls voters n m || (b && feeds ls n m)) gone ∙ or_false (fed_so_far ls voters n m))
-    where
-      or_false : (b : Bool) → (b || false) ≡ b
-      or_false true = refl
-      or_false false = refl
 
 -- the row of a voter overlaps the set where the voter feeds some module of it
 pub overlap_feeds : (ls : Links) (modules : TrioSet) (v : ℕ) → overlap modules (get_or ls.rows v no_row) ≡ feeds_some ls modules v

@@ -1,6 +1,6 @@
 -- What one changed row does to the list of links.
-use Rattle.std.proofs.Common.{◌≡◌, ℕ, ◌<◌, ◌≤◌, Bool, true, false, cond, not, ◌&&◌, ◌||◌, eqb, ltb, List, [], length, get_or, set, sym, refl, ap, ◌∙◌, ⊎_elim, arith}
-use Rattle.std.proofs.lemmas.List.{get_or-set_other, get_or-set_same}
+use Rattle.std.proofs.Common.{◌≡◌, ℕ, ◌<◌, ◌≤◌, Bool, true, false, cond, not, ◌&&◌, ◌||◌, eqb, ltb, List, [], length, get_or, replicate, set, sym, refl, ap, ◌∙◌, ⊎_elim, arith}
+use Rattle.std.proofs.lemmas.List.{get_or_past, get_or-replicate, get_or-set_other, get_or-set_same}
 use Rattle.std.proofs.lemmas.Bool.{cases_Bool, cases_eq, cases_lt, eq-eqb, le-ltb, lt-ltb, ne_eqb}
 use Rattle.std.proofs.lemmas.Bool.Decides.{nat_tests}
 use Rattle.network.specs.Networks.{Link, put, same_link, taken_out}
@@ -9,7 +9,7 @@ use Rattle.sets.specs.Sets.{member}
 use Rattle.sets.specs.declared.TrioSet.{TrioSet}
 use Rattle.wiring.specs.Wires.{feeds, link_list, no_row}
 use Rattle.wiring.specs.declared.links.Links.{Links}
-use Rattle.wiring.proofs.Rows.{feeds_range, list_is, rising_list, stands_list}
+use Rattle.wiring.proofs.Rows.{feeds_range, list_is, nothing_in, rising_list, stands_list}
 
 -- what is fed once row v is the set s
 row_feeds : (ls rs : Links) (v : ℕ) (s : TrioSet) → v < 16 → rs.rows ≡ set ls.rows v s → (w k : ℕ) → feeds rs w k ≡ cond (eqb w v) (member s k) (feeds ls w k)
@@ -87,3 +87,8 @@ list_taken_out_past ls rs v m past is =
 -- rows that are all empty stand for no link
 pub list_none : (ls : Links) → ((v k : ℕ) → feeds ls v k ≡ false) → link_list ls ≡ []
 list_none ls none = list_is ls [] refl (λ l. none l.0 l.1)
+
+-- an array of empty rows feeds nothing
+pub empty_rows : (none : TrioSet) → ((k : ℕ) → member none k ≡ false) → (v k : ℕ) → member (get_or (replicate 16 none) v no_row) k ≡ false
+empty_rows none empty v k =
+    ⊎_elim (λ h. rw (get_or-replicate 16 v none no_row h) (empty k)) (λ h. rw (get_or_past (replicate 16 none) v no_row h) (nothing_in k)) (cases_lt v 16)

@@ -9,7 +9,7 @@ use network::Trio;
 use sets::TrioSet;
 
 // The trios that chains of links join, as sets of their numbers.
-#[derive(Clone, Copy)]
+#[derive(Clone, Copy, PartialEq, Eq, Debug, Default)]
 pub struct Cell {
     pub voters: TrioSet,
     pub modules: TrioSet,
@@ -30,10 +30,9 @@ impl Cell {
     pub fn starts_at(self, trio: Trio) -> bool
         ensures { result ≡ starts_at self trio }
     {
-        match (trio, self.voters.first(), self.modules.first()) {
-            (Trio::Voter(v), Some(first), _) => v == first,
-            (Trio::Module(m), None, Some(first)) => m == first,
-            _ => false,
+        match trio {
+            Trio::Voter(v) => self.voters.first() == Some(v),
+            Trio::Module(m) => self.voters.first() == None && self.modules.first() == Some(m),
         }
     }
 
@@ -52,12 +51,5 @@ impl Cell {
                 modules: none.with(m),
             },
         }
-    }
-
-    // How many trios there are.
-    pub(crate) fn len(self) -> usize
-        ensures { result ≡ length (members self.voters) + length (members self.modules) }
-    {
-        self.voters.len() + self.modules.len()
     }
 }

@@ -19,7 +19,7 @@ impl Links {
         let mut cell = Cell::only(trio);
         loop {
             let grown = self.grown(cell);
-            if grown.len() == cell.len() {
+            if grown == cell {
                 return cell;
             }
             cell = grown;
@@ -41,10 +41,8 @@ impl Links {
         ensures { (m : ℕ) → member result m ≡ fed_by_some self.now voters m }
     {
         let mut fed = TrioSet::empty();
-        for (v, row) in self.rows.iter().enumerate() {
-            if voters.contains(v) {
-                fed = fed.union(*row);
-            }
+        for v in voters {
+            fed = fed.union(self.rows[v]);
         }
         fed
     }

@@ -1,10 +1,11 @@
 // Links put and taken out.
 ghost use Rattle.std.specs.Prelude.{◌≡◌, ◌&&◌, [], if◌then◌else◌, filter, nat_lt};
-ghost use Rattle.network.specs.Networks.{put, stands, taken_out};
+ghost use Rattle.network.specs.Networks.{link_of, put, stands, taken_out};
 ghost use Rattle.sets.specs.Sets.{member};
 ghost use Rattle.wiring.specs.Wires.{link_list};
 
-use super::Links;
+use super::{Links, VOTERS};
+use network::Link;
 use sets::TrioSet;
 
 impl Links {
@@ -13,24 +14,24 @@ impl Links {
         ensures { link_list result ≡ [] }
     {
         Links {
-            rows: [TrioSet::empty(); 16],
+            rows: [TrioSet::empty(); VOTERS],
         }
     }
 
     // Whether the voter feeds the module.
-    pub fn stands(&self, voter: usize, module: usize) -> bool
-        ensures { result ≡ stands (link_list self.now) (voter, «module») }
+    pub fn stands(&self, link: Link) -> bool
+        ensures { result ≡ stands (link_list self.now) (link_of link) }
     {
-        voter < 16 && self.rows[voter].contains(module)
+        link.voter < VOTERS && self.rows[link.voter].contains(link.module)
     }
 
     // The links with one more; one past the last row or place adds nothing.
-    pub fn with(self, voter: usize, module: usize) -> Links
-        ensures { link_list result ≡ (if nat_lt voter 16 && nat_lt «module» 16 then put (voter, «module») (link_list self) else link_list self) }
+    pub fn with(self, link: Link) -> Links
+        ensures { link_list result ≡ (if nat_lt link.voter 16 && nat_lt link.«module» 16 then put (link_of link) (link_list self) else link_list self) }
     {
         let mut rows = self.rows;
-        if voter < 16 {
-            rows[voter] = rows[voter].with(module);
+        if link.voter < VOTERS {
+            rows[link.voter] = rows[link.voter].with(link.module);
         }
         Links { rows }
     }
@@ -39,22 +40,20 @@ impl Links {
     pub fn only_from(&self, voters: TrioSet) -> Links
         ensures { link_list result ≡ filter (λ l. member voters l.0) (link_list self.now) }
     {
-        let mut rows = self.rows;
-        for v in 0..16 {
-            if !voters.contains(v) {
-                rows[v] = TrioSet::empty();
-            }
+        let mut rows = [TrioSet::empty(); VOTERS];
+        for v in voters {
+            rows[v] = self.rows[v];
         }
         Links { rows }
     }
 
     // The links without one.
-    pub fn without(self, voter: usize, module: usize) -> Links
-        ensures { link_list result ≡ taken_out (voter, «module») (link_list self) }
+    pub fn without(self, link: Link) -> Links
+        ensures { link_list result ≡ taken_out (link_of link) (link_list self) }
     {
         let mut rows = self.rows;
-        if voter < 16 {
-            rows[voter] = rows[voter].without(module);
+        if link.voter < VOTERS {
+            rows[link.voter] = rows[link.voter].without(link.module);
         }
         Links { rows }
     }

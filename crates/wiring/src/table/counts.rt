@@ -2,7 +2,8 @@
 ghost use Rattle.std.specs.Prelude.{◌≡◌, [], length};
 ghost use Rattle.wiring.specs.Tables.{codes};
 
-use super::{TrioRecord, TrioTable};
+use super::TrioTable;
+use arrayvec::ArrayVec;
 
 impl<const N: usize> TrioTable<N> {
     // No trio yet.
@@ -10,8 +11,7 @@ impl<const N: usize> TrioTable<N> {
         ensures { codes result ≡ [] }
     {
         TrioTable {
-            trios: [TrioRecord { code: 0 }; N],
-            count: 0,
+            trios: ArrayVec::new(),
         }
     }
 
@@ -19,6 +19,6 @@ impl<const N: usize> TrioTable<N> {
     pub fn len(&self) -> usize
         ensures { result ≡ length (codes self.now) }
     {
-        self.count
+        self.trios.len()
     }
 }

@@ -1,5 +1,5 @@
 // The trios of a table, one by one.
-ghost use Rattle.std.specs.Prelude.{◌≡◌, [], ◌∷◌, ◌++◌, length, if◌then◌else◌, Some, None, nat_lt, slice_index, slice_set};
+ghost use Rattle.std.specs.Prelude.{◌≡◌, [], ◌∷◌, ◌++◌, length, if◌then◌else◌, is_some, Some, None, nat_lt, slice_index, slice_set};
 ghost use Rattle.wiring.specs.Tables.{codes};
 
 use super::{TrioRecord, TrioTable};
@@ -18,35 +18,27 @@ impl<const N: usize> TrioTable<N> {
     pub fn code(&self, i: usize) -> Option<u16>
         ensures { result ≡ (if nat_lt i (length (codes self.now)) then Some (slice_index (codes self.now) i) else None) }
     {
-        if i >= self.count {
-            return None;
-        }
-        Some(self.trios[i].code)
+        let trio = self.trios.as_slice().get(i)?;
+        Some(trio.code)
     }
 
-    // One trio more, at the end; false where the table is full.
-    pub fn push(&mut self, code: u16) -> bool
-        ensures value { result ≡ nat_lt (length (codes self.old)) N }
-        ensures after { codes self.new ≡ (if result then codes self.old ++ (code ∷ []) else codes self.old) }
+    // One trio more, at the end; answers its number, or nothing where the table is full.
+    pub fn push(&mut self, code: u16) -> Option<usize>
+        ensures value { result ≡ (if nat_lt (length (codes self.old)) N then Some (length (codes self.old)) else None) }
+        ensures after { codes self.new ≡ (if is_some result then codes self.old ++ (code ∷ []) else codes self.old) }
     {
-        if self.count >= N {
-            return false;
-        }
-        self.trios[self.count] = TrioRecord { code };
-        self.count += 1;
-        true
+        let number = self.trios.len();
+        self.trios.try_push(TrioRecord { code }).ok()?;
+        Some(number)
     }
 
-    // Another code for trio `i`; false where there is no such trio.
-    pub fn relabel(&mut self, i: usize, code: u16) -> bool
-        ensures value { result ≡ nat_lt i (length (codes self.old)) }
+    // Another code for trio `i`; nothing is done where there is no such trio.
+    pub fn relabel(&mut self, i: usize, code: u16) -> Option<()>
+        ensures value { result ≡ (if nat_lt i (length (codes self.old)) then Some tt else None) }
         ensures after { codes self.new ≡ slice_set (codes self.old) i code }
     {
-        if i >= self.count {
-            return false;
-        }
-        let trio = &mut self.trios[i];
+        let trio = self.trios.get_mut(i)?;
         trio.relabel(code);
-        true
+        Some(())
     }
 }

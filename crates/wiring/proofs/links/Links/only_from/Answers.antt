@@ -1,30 +1,38 @@
--- Each row of a voter outside the set is emptied.
-use Rattle.std.proofs.Common.{◌≡◌, ◌+◌, List, length, sym, ◌∙◌, subst, arith, length-set}
-use Rattle.sets.specs.declared.TrioSet.{TrioSet}
-use Rattle.wiring.proofs.Restricted.{Restricted, list_restricted, row_emptied, row_stays, unrestricted}
+-- Each row of a voter in the set is taken over.
+use Rattle.std.proofs.Common.{◌<◌, refl, ◌∙◌, subst, arith, length-set}
+use Rattle.sets.proofs.Through.{all_gone, gone_through, next_member}
+use Rattle.wiring.specs.Wires.{feeds}
+use Rattle.wiring.proofs.RowEdits.{empty_rows}
+use Rattle.wiring.proofs.Restricted.{Taken, list_taken, taken_more}
 use Rattle.wiring.proofs.links.Links.only_from.Goals as goal
-use Rattle.wiring.proofs.links.Links.only_from.Goals.{then-not-contains, else-not-contains}
 
 pub loop-v-init : goal.loop-v-init
-loop-v-init c = (c.args.self.now.long, unrestricted c.args.self.now c.args.voters)
+loop-v-init c = (tt, tt, c.into_iter-v-iterator.ensures.into_iter_gives, empty_rows c.empty-rows.result c.empty-rows.ensures, refl)
+
+pub offset_bounds-self-v : goal.offset_bounds-self-v
+offset_bounds-self-v c = omega (arith, (next_member c.args.voters c.loop-v.yielded c.in-Some.ensures.steps c.loop-v.invariant.2).0)
+
+pub bounds-self-v : goal.bounds-self-v
+bounds-self-v c = (next_member c.args.voters c.loop-v.yielded c.in-Some.ensures.steps c.loop-v.invariant.2).0
+
+pub offset_bounds-rows-v : goal.offset_bounds-rows-v
+offset_bounds-rows-v c = omega (arith, (next_member c.args.voters c.loop-v.yielded c.in-Some.ensures.steps c.loop-v.invariant.2).0)
+
+pub bounds-rows-v : goal.bounds-rows-v
+bounds-rows-v c = (next_member c.args.voters c.loop-v.yielded c.in-Some.ensures.steps c.loop-v.invariant.2).0
 
 pub loop-v-preserved : goal.loop-v-preserved
+unfolding feeds
 loop-v-preserved c =
-    let ls = c.args.self.now in
-    let v = c.loop-v.v in
-    let long = c.loop-v.invariant.0 in
-    let P : List TrioSet → Type 0 = λ rows. (length rows ≡ 16) × Restricted ls c.args.voters (v + 1) rows in
-    elim c.if-not-contains.branch [
-      | then-not-contains w ↦
-          let gone = sym c.contains.ensures ∙ w.if-not-contains.true in
-          subst P (sym w.rows-is) (length-set c.loop-v.rows v w.empty.result ∙ long, row_emptied ls c.args.voters v c.loop-v.rows c.loop-v.invariant.1 w.empty.result w.empty.ensures gone (omega (arith, long, c.loop-v-test.true)))
-      | else-not-contains w ↦
-          let there = sym c.contains.ensures ∙ w.if-not-contains.false in
-          subst P (sym w.rows-is) (long, row_stays ls c.args.voters v c.loop-v.rows c.loop-v.invariant.1 there)
-    ]
-
-pub invariant_of-result : goal.invariant_of-result
-invariant_of-result c = record { long = c.loop-v.invariant.0 }
+    let within : c.in-Some.v < 16 = (next_member c.args.voters c.loop-v.yielded c.in-Some.ensures.steps c.loop-v.invariant.2).0 in (
+      tt,
+      tt,
+      gone_through c.args.voters c.loop-v.yielded c.in-Some.ensures.steps c.loop-v.invariant.2,
+      taken_more c.args.self.now c.loop-v.yielded c.loop-v.rows c.in-Some.v _ (omega (arith, c.loop-v.invariant.4)) (λ k. refl) c.loop-v.invariant.3,
+      length-set c.loop-v.rows c.in-Some.v _ ∙ c.loop-v.invariant.4,
+    )
 
 pub returns : goal.returns
-returns c = list_restricted c.args.self.now _ c.args.voters c.loop-v.v c.loop-v-test.false c.loop-v.invariant.1
+returns c =
+    let all = all_gone c.args.voters c.loop-v.yielded c.in-None.ensures.steps.0 c.loop-v.invariant.2 in
+    list_taken c.args.self.now _ c.args.voters (subst (λ gone. Taken c.args.self.now gone c.loop-v.rows) all c.loop-v.invariant.3)

@@ -1,7 +1,10 @@
--- The rows gone through have kept only the voters' links.
-use Rattle.std.proofs.Common.{◌≡◌, length}
-use Rattle.wiring.proofs.Restricted.{Restricted}
+-- The rows of the voters gone through are taken over.
+use Rattle.std.proofs.Common.{◌≡◌, ◌++◌, length}
+use Rattle.sets.specs.Sets.{members, to_come}
+use Rattle.wiring.proofs.Restricted.{Taken}
 use Rattle.wiring.proofs.links.Links.only_from.Given as goal
 
 abbrev pub invariant-loop-v : goal.invariant-loop-v
-invariant-loop-v l = (length l.rows ≡ 16) × Restricted l.self l.voters l.v l.rows
+invariant-loop-v l =
+    (goal.iterator-loop-v).can_next l.v-iterator × (goal.iterator-loop-v).is_finite l.v-iterator
+    × (l.yielded ++ to_come l.v-iterator ≡ members l.fn.voters) × Taken l.self l.yielded l.rows × (length l.rows ≡ 16)

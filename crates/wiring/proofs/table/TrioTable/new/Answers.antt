@@ -1,12 +1,8 @@
--- An array of N records with none of them counted.
-use Rattle.std.proofs.Common.{refl, arith}
-use lib.ListN.{length-replicate}
-use Rattle.wiring.specs.Tables.{codes}
+-- No record, so no code.
+use Rattle.std.proofs.Common.{map, ap}
+use Rattle.wiring.specs.Tables.{code_in, codes}
 use Rattle.wiring.proofs.table.TrioTable.new.Goals as goal
-
-pub invariant_of-result : goal.invariant_of-result
-invariant_of-result g c = record { long = length-replicate g.row.N _; fits = omega arith }
 
 pub returns : goal.returns
 unfolding codes
-returns g c = refl
+returns g c = ap (map code_in) c.new.ensures
