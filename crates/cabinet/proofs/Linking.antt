@@ -1,15 +1,17 @@
 -- When links are refused, and what linking and cutting leave.
-use Rattle.std.proofs.Common.{◌≡◌, ℕ, ◌<◌, ◌≤◌, true, false, cond, ◌&&◌, ltb, List, length, Some, None, ap, ◌∙◌, arith}
+use Rattle.std.proofs.Common.{◌≡◌, ℕ, ◌<◌, ◌≤◌, true, false, cond, not, ◌&&◌, ltb, List, [], ◌∷◌, length, Some, None, Err, ap, ◌∙◌, arith}
 use Rattle.std.proofs.lemmas.Bool.{and_from, cond-true, le-ltb, lt-ltb, ltb-true, not-false}
 use Rattle.network.specs.Cells.{edge, width}
 use Rattle.network.specs.Changes.{absent, cut, link, network_after, refusal, too_wide}
 use Rattle.network.specs.Chains.{joined}
 use Rattle.network.specs.Limits.{within_limits}
 use Rattle.network.specs.Networks.{Link, Network, has_module, has_voter, linked, module_count, put, taken_out, voter_count, with_link}
-use Rattle.refusals.specs.declared.Refusal.TheVariants.{NoVoter, NoModule, LinkStands, NoLink, CellTooWide}
+use Rattle.network.specs.Questions.{link_answer}
+use Rattle.refusals.specs.declared.Refusal.{Refusal}
+use Rattle.refusals.specs.declared.Refusal.TheVariants.{LinkStands, NoLink, CellTooWide}
 use Rattle.network.specs.declared.Trio.{Trio}
 use Rattle.network.specs.declared.Trio.TheVariants.{Voter, Module}
-use Rattle.network.proofs.Dues.{after_change}
+use Rattle.network.proofs.Dues.{after_change, one_stopped}
 use Rattle.network.proofs.Keeps.{limits}
 use Rattle.network.proofs.Links.{all_put}
 use Rattle.sets.specs.Sets.{members}
@@ -20,24 +22,17 @@ use Rattle.wiring.specs.declared.links.Links.{Links}
 use Rattle.cabinet.proofs.CellsOf.{voters_are}
 
 module _ (n : Network) (v m : ℕ) where
-  -- the checks of link, as far as they were passed
-  pub link_no_voter : (absent (Voter v) n).0 ≡ true → refusal (link v m) n ≡ Some NoVoter
+  -- a trio that is lacking is told as by the question whether the link stands
+  pub link_lacks : (e : Refusal) → Err e ≡ link_answer n v m → refusal (link v m) n ≡ Some e
   unfolding refusal
-  link_no_voter h = rw h
+  link_lacks e asked = one_stopped (absent (Voter v) n) (absent (Module m) n) (linked n v m) e ((linked n v m, LinkStands) ∷ ((too_wide v m n, CellTooWide) ∷ [])) asked
 
-  pub cut_no_voter : (absent (Voter v) n).0 ≡ true → refusal (cut v m) n ≡ Some NoVoter
+  pub cut_lacks : (e : Refusal) → Err e ≡ link_answer n v m → refusal (cut v m) n ≡ Some e
   unfolding refusal
-  cut_no_voter h = rw h
+  cut_lacks e asked = one_stopped (absent (Voter v) n) (absent (Module m) n) (linked n v m) e ((not (linked n v m), NoLink) ∷ []) asked
 
+  -- the checks of link and of cut, as far as they were passed
   module _ (voter_there : (absent (Voter v) n).0 ≡ false) where
-    pub link_no_module : (absent (Module m) n).0 ≡ true → refusal (link v m) n ≡ Some NoModule
-    unfolding refusal
-    link_no_module h = rw (voter_there, h)
-
-    pub cut_no_module : (absent (Module m) n).0 ≡ true → refusal (cut v m) n ≡ Some NoModule
-    unfolding refusal
-    cut_no_module h = rw (voter_there, h)
-
     module _ (module_there : (absent (Module m) n).0 ≡ false) where
       pub link_again : linked n v m ≡ true → refusal (link v m) n ≡ Some LinkStands
       unfolding refusal

@@ -1,15 +1,22 @@
 -- The cells that start at their trios, one after another, are the cells of the network.
-use Rattle.std.proofs.Common.{◌≡◌, ℕ, suc, ◌+◌, ◌<◌, ◌≤◌, Bool, true, false, cond, not, ◌&&◌, List, [], ◌∷◌, ◌++◌, map, length, get_or, take, is_some, Some, None, filter, Option, sym, refl, ap, ◌∙◌, subst, ap₂, ⊎_elim, arith}
+use Rattle.std.proofs.Common.{◌≡◌, ℕ, suc, ◌+◌, ◌<◌, ◌≤◌, Bool, true, false, cond, not, ◌&&◌, List, [], ◌∷◌, ◌++◌, map, length, get_or, take, is_some, ltb, Some, None, Ok, filter, Option, sym, refl, ap, ◌∙◌, subst, ap₂, ⊎_elim, arith}
+use Rattle.std.specs.Borrow.{Bor}
+use Rattle.std.specs.List.{position, position_or_len}
+use Rattle.std.specs.Option.{IfSome, ok_or, option_copied, unwrap_or}
+use Rattle.std.specs.Result.{result_map_both}
 use Rattle.std.proofs.lemmas.List.Elements.{filter_more}
 use Rattle.std.proofs.lemmas.List.{append-nil, get_or-map, length-map, map-append, take_all}
-use Rattle.std.proofs.lemmas.Bool.{and_from, and_parts, both_ways, cases_Bool, cases_order, cond-false, cond-true, eq-eqb, lt-ltb, ltb-true, ne_eqb}
+use Rattle.std.proofs.lemmas.Bool.{and_from, and_parts, both_ways, cases_Bool, cases_lt, cases_order, cond-false, cond-true, eq-eqb, le-leb, le-ltb, lt-leb, lt-ltb, ltb-false, ltb-true, ne_eqb}
 use Rattle.network.specs.Cells.{Members, all_cells, cell_at, cell_count, cell_of, cells, edges, leads, members_with, modules_with, place, precedes, together, voters_with}
 use Rattle.network.specs.Limits.{inside}
 use Rattle.network.specs.Networks.{Network, module_count, present, trios, voter_count}
+use Rattle.network.specs.Questions.{cell_answer, no_cell}
 use Rattle.network.specs.declared.Trio.{Trio}
 use Rattle.network.specs.declared.Trio.TheVariants.{Voter, Module}
 use Rattle.network.proofs.Chains.{joined_both, joined_itself}
+use Rattle.network.proofs.Dues.{answers_refusal, answers_value, hit, miss}
 use Rattle.network.proofs.Leads.{leads_from, leads_not}
+use Rattle.refusals.specs.declared.Refusal.TheVariants.{NoCell}
 use Rattle.sets.specs.Lists.{all, first_of}
 use Rattle.sets.specs.Sets.{member, members}
 use Rattle.sets.proofs.Members.{first_least, first_none, member_listed}
@@ -157,3 +164,34 @@ module _ (n : Network) (t : Trio) (few_voters : voter_count n ≤ 16) (few_modul
   pub place_listed : (cs : List Cell) → shown_list cs ≡ all_cells n → place (λ c. holds c t) cs ≡ cell_of n t
   unfolding all_cells cell_of
   place_listed cs is = place_shown cs (cells n) is
+
+-- the first place that the library finds, or the length where it finds none
+pub place_found : {X : Type 0} (test : X → Bool) (xs : List X) → unwrap_or (position test xs) (length xs) ≡ place test xs
+place_found {X} test xs = ⊎_elim
+    (λ lt. ap (λ b. unwrap_or (cond b (Some (position_or_len test xs)) None) (length xs)) (lt-ltb (position_or_len test xs) (length xs) lt) ∙ same xs)
+    (λ le. ap (λ b. unwrap_or (cond b (Some (position_or_len test xs)) None) (length xs)) (le-ltb (position_or_len test xs) (length xs) le) ∙ omega (arith, same xs, place_le xs))
+    (cases_lt (position_or_len test xs) (length xs))
+  where
+    place_le : (ys : List X) → place test ys ≤ length ys
+    place_le [] = omega arith
+    place_le (y ∷ ys) = one (test y) (place_le ys)
+      where
+        one : (b : Bool) → place test ys ≤ length ys → cond b 0 (suc (place test ys)) ≤ suc (length ys)
+        one true h = omega arith
+        one false h = omega arith
+
+    same : (ys : List X) → position_or_len test ys ≡ place test ys
+    same [] = refl
+    same (y ∷ ys) = one (test y) (same ys)
+      where
+        one : (b : Bool) → position_or_len test ys ≡ place test ys → cond (not b) (1 + position_or_len test ys) 0 ≡ cond b 0 (suc (place test ys))
+        one true h = refl
+        one false h = omega (arith, h)
+
+-- the cell that is read at a place of the list, if there is one
+pub cell_read : (n : Network) (cs : List Cell) (i : ℕ) → shown_list cs ≡ all_cells n → (r : Option (Bor Cell)) → is_some r ≡ ltb i (length cs) → IfSome r (λ x. x.now ≡ get_or cs i x.now)
+    → result_map_both shown (λ e. e) (ok_or (option_copied r) NoCell) ≡ cell_answer n i
+cell_read n cs i is None none at = answers_refusal _ NoCell _ (hit (no_cell i n) [] (le-leb (cell_count n) i (omega (arith, count_listed n cs is, ltb-false i (length cs) (sym none)))))
+cell_read n cs i is (Some x) there at =
+    let within : i < length cs = ltb-true i (length cs) (sym there) in
+    ap (λ c. Ok (shown c)) at ∙ ap Ok (cell_listed n cs i x.now is within) ∙ answers_value _ _ (miss (no_cell i n) [] (lt-leb (cell_count n) i (omega (arith, count_listed n cs is, within))))

@@ -2,7 +2,5 @@
 #![tactic(auto)]
 
 mod cabinet;
-mod cell_list;
 
-pub use cabinet::Cabinet;
-pub use cell_list::CellList;
+pub use cabinet::{Cabinet, CellList};

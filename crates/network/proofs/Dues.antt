@@ -30,6 +30,38 @@ module _ {X : Type 0} where
       never : ◌≡◌ {A = Result X Refusal} (Err e) (Ok x) → ⊥
       never q = let z : ◌≡◌ {A = ℕ} 0 1 = cc in omega arith
 
+  -- two checks: both were passed where the answer is a value
+  pub both_passed : (j k : Check) (x y : X) → Ok y ≡ answered (first_due (j ∷ (k ∷ []))) x → (j.0 ≡ false) × (k.0 ≡ false) × (y ≡ x)
+  both_passed j k x y h = ⊎_elim (λ p. absurd (never j.1 (h ∙ told (hit j (k ∷ []) p)))) (λ p. first p) (cases_Bool j.0)
+    where
+      told : {due : Option Refusal} → first_due (j ∷ (k ∷ [])) ≡ due → answered (first_due (j ∷ (k ∷ []))) x ≡ answered due x
+      told is = ap (λ (o : Option Refusal). answered o x) is
+
+      never : (e : Refusal) → ◌≡◌ {A = Result X Refusal} (Ok y) (Err e) → ⊥
+      never e q = let z : ◌≡◌ {A = ℕ} 0 1 = cc in omega arith
+
+      same : ◌≡◌ {A = Result X Refusal} (Ok y) (Ok x) → y ≡ x
+      same q = cc
+
+      first : j.0 ≡ false → (j.0 ≡ false) × (k.0 ≡ false) × (y ≡ x)
+      first p = ⊎_elim (λ q. absurd (never k.1 (h ∙ told (miss j (k ∷ []) p ∙ hit k [] q)))) (λ q. (p, q, same (h ∙ told (miss j (k ∷ []) p ∙ miss k [] q)))) (cases_Bool k.0)
+
+  -- and where it is a refusal, that refusal is due whatever is checked after them
+  pub one_stopped : (j k : Check) (x : X) (e : Refusal) (ks : List Check) → Err e ≡ answered (first_due (j ∷ (k ∷ []))) x → first_due (j ∷ (k ∷ ks)) ≡ Some e
+  one_stopped j k x e ks h = ⊎_elim (λ p. hit j (k ∷ ks) p ∙ ap Some (sym (same j.1 (h ∙ told (hit j (k ∷ []) p))))) (λ p. miss j (k ∷ ks) p ∙ second p) (cases_Bool j.0)
+    where
+      told : {due : Option Refusal} → first_due (j ∷ (k ∷ [])) ≡ due → answered (first_due (j ∷ (k ∷ []))) x ≡ answered due x
+      told is = ap (λ (o : Option Refusal). answered o x) is
+
+      same : (f : Refusal) → ◌≡◌ {A = Result X Refusal} (Err e) (Err f) → e ≡ f
+      same f q = cc
+
+      never : ◌≡◌ {A = Result X Refusal} (Err e) (Ok x) → ⊥
+      never q = let z : ◌≡◌ {A = ℕ} 0 1 = cc in omega arith
+
+      second : j.0 ≡ false → first_due (k ∷ ks) ≡ Some e
+      second p = ⊎_elim (λ q. hit k ks q ∙ ap Some (sym (same k.1 (h ∙ told (miss j (k ∷ []) p ∙ hit k [] q))))) (λ q. absurd (never (h ∙ told (miss j (k ∷ []) p ∙ miss k [] q)))) (cases_Bool k.0)
+
   pub answers_refusal : (due : Option Refusal) (e : Refusal) (x : X) → due ≡ Some e → Err e ≡ answered due x
   answers_refusal due e x h = sym (ap (λ (o : Option Refusal). answered o x) h)
 

@@ -1,16 +1,16 @@
 // The cells of a cabinet, found from its links.
-ghost use Rattle.std.specs.Prelude.{◌≡◌, ◌+◌, ◌<◌, slice_index_or};
+ghost use Rattle.std.specs.Prelude.{◌≡◌, ◌+◌, ◌<◌, position, slice_index_or};
 ghost use Rattle.std.specs.Result.{result_map_both};
-ghost use Rattle.network.specs.Cells.{all_cells, cell_count, place};
+ghost use Rattle.network.specs.Cells.{all_cells, cell_count};
 ghost use Rattle.network.specs.Networks.{trios, voter_count, module_count};
 ghost use Rattle.network.specs.Questions.{cell_answer, cell_of_answer};
 ghost use Rattle.network.specs.declared.Trio.TheVariants.{Voter};
 ghost use Rattle.wiring.specs.CellSets.{holds, shown};
-ghost use Rattle.cabinet.specs.CellLists.{listed, shown_list};
+ghost use Rattle.cabinet.specs.CellLists.{shown_list};
 ghost use Rattle.cabinet.specs.Cabinets.{network};
 
-use super::Cabinet;
-use crate::cell_list::CellList;
+use super::{Cabinet, CellList};
+use arrayvec::ArrayVec;
 use network::Trio;
 use refusals::Refusal;
 use wiring::Cell;
@@ -18,9 +18,9 @@ use wiring::Cell;
 impl Cabinet {
     // All cells: those of the trios that are the first of theirs.
     pub fn cells(&self) -> CellList
-        ensures { shown_list (listed result) ≡ all_cells (network self.now) }
+        ensures { shown_list result.items ≡ all_cells (network self.now) }
     {
-        let mut list = CellList::new();
+        let mut list = ArrayVec::new();
         for k in 0..self.voters.len() + self.modules.len() {
             let trio = self.trio_at(k);
             let cell = self.links.cell_around(trio);
@@ -35,8 +35,7 @@ impl Cabinet {
     pub fn cell_count(&self) -> usize
         ensures { result ≡ cell_count (network self.now) }
     {
-        let list = self.cells();
-        list.as_slice().len()
+        self.cells().len()
     }
 
     // The number of a trio's cell.
@@ -45,7 +44,8 @@ impl Cabinet {
     {
         self.present(trio)?;
         let list = self.cells();
-        Ok(place_of(list.as_slice(), trio))
+        let number = first_holding(list.as_slice(), trio);
+        Ok(number.unwrap_or(list.len()))
     }
 
     // A cell's voter trios and module trios.
@@ -53,11 +53,7 @@ impl Cabinet {
         ensures { result_map_both shown (λ e. e) result ≡ cell_answer (network self.now) number }
     {
         let list = self.cells();
-        let cells = list.as_slice();
-        if number >= cells.len() {
-            return Err(Refusal::NoCell);
-        }
-        Ok(cells[number])
+        list.as_slice().get(number).copied().ok_or(Refusal::NoCell)
     }
 
     // The trio at place `k`, voters first.
@@ -73,14 +69,9 @@ impl Cabinet {
     }
 }
 
-// How many cells stand before the first that holds the trio.
-fn place_of(cells: &[Cell], trio: Trio) -> usize
-    ensures { result ≡ place (λ c. holds c trio) cells.now }
+// The place of the first cell that holds the trio.
+fn first_holding(cells: &[Cell], trio: Trio) -> Option<usize>
+    ensures { result ≡ position (λ c. holds c trio) cells.now }
 {
-    for (i, cell) in cells.iter().enumerate() {
-        if cell.holds(trio) {
-            return i;
-        }
-    }
-    cells.len()
+    cells.iter().position(|cell| cell.holds(trio))
 }

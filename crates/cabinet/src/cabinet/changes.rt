@@ -1,12 +1,12 @@
 // The calls that change a cabinet.
 ghost use Rattle.std.specs.Prelude.{◌≡◌};
-ghost use Rattle.network.specs.Changes.{add_voter, add_module, link, cut, change_part, network_after, refusal};
+ghost use Rattle.network.specs.Changes.{add_voter, add_module, link as linking, cut, change_part, network_after, refusal};
 ghost use Rattle.network.specs.Networks.{empty, voter_count, module_count};
 ghost use Rattle.refusals.specs.Refusals.{answered};
 ghost use Rattle.cabinet.specs.Cabinets.{network};
 
 use super::Cabinet;
-use network::Trio;
+use network::{Link, Trio};
 use refusals::Refusal;
 use wiring::{Links, TrioTable};
 
@@ -30,11 +30,7 @@ impl Cabinet {
         ensures answer { result ≡ answered (refusal (add_voter code) (network self.old)) (voter_count (network self.old)) }
         ensures after { network self.new ≡ network_after (add_voter code) (network self.old) }
     {
-        let number = self.voters.len();
-        if !self.voters.push(code) {
-            return Err(Refusal::VotersFull);
-        }
-        Ok(number)
+        self.voters.push(code).ok_or(Refusal::VotersFull)
     }
 
     // One module trio more; answers its number.
@@ -42,25 +38,19 @@ impl Cabinet {
         ensures answer { result ≡ answered (refusal (add_module code) (network self.old)) (module_count (network self.old)) }
         ensures after { network self.new ≡ network_after (add_module code) (network self.old) }
     {
-        let number = self.modules.len();
-        if !self.modules.push(code) {
-            return Err(Refusal::ModulesFull);
-        }
-        Ok(number)
+        self.modules.push(code).ok_or(Refusal::ModulesFull)
     }
 
     // A link from a voter trio to a module trio.
-    pub fn link(&mut self, voter: usize, module: usize) -> Result<(), Refusal>
-        ensures answer { result ≡ answered (refusal (link voter «module») (network self.old)) tt }
-        ensures after { network self.new ≡ network_after (link voter «module») (network self.old) }
+    pub fn link(&mut self, link: Link) -> Result<(), Refusal>
+        ensures answer { result ≡ answered (refusal (linking link.voter link.«module») (network self.old)) tt }
+        ensures after { network self.new ≡ network_after (linking link.voter link.«module») (network self.old) }
     {
-        self.present(Trio::Voter(voter))?;
-        self.present(Trio::Module(module))?;
-        if self.links.stands(voter, module) {
+        if self.is_linked(link)? {
             return Err(Refusal::LinkStands);
         }
-        let links = self.links.with(voter, module);
-        if links.cell_around(Trio::Voter(voter)).voters.len() > WIDEST {
+        let links = self.links.with(link);
+        if links.cell_around(Trio::Voter(link.voter)).voters.len() > WIDEST {
             return Err(Refusal::CellTooWide);
         }
         self.links = links;
@@ -68,16 +58,14 @@ impl Cabinet {
     }
 
     // A link cut.
-    pub fn cut(&mut self, voter: usize, module: usize) -> Result<(), Refusal>
-        ensures answer { result ≡ answered (refusal (cut voter «module») (network self.old)) tt }
-        ensures after { network self.new ≡ network_after (cut voter «module») (network self.old) }
+    pub fn cut(&mut self, link: Link) -> Result<(), Refusal>
+        ensures answer { result ≡ answered (refusal (cut link.voter link.«module») (network self.old)) tt }
+        ensures after { network self.new ≡ network_after (cut link.voter link.«module») (network self.old) }
     {
-        self.present(Trio::Voter(voter))?;
-        self.present(Trio::Module(module))?;
-        if !self.links.stands(voter, module) {
+        if !self.is_linked(link)? {
             return Err(Refusal::NoLink);
         }
-        self.links = self.links.without(voter, module);
+        self.links = self.links.without(link);
         Ok(())
     }
 
@@ -86,15 +74,9 @@ impl Cabinet {
         ensures answer { result ≡ answered (refusal (change_part trio code) (network self.old)) tt }
         ensures after { network self.new ≡ network_after (change_part trio code) (network self.old) }
     {
-        self.present(trio)?;
         match trio {
-            Trio::Voter(v) => {
-                self.voters.relabel(v, code);
-            }
-            Trio::Module(m) => {
-                self.modules.relabel(m, code);
-            }
+            Trio::Voter(v) => self.voters.relabel(v, code).ok_or(Refusal::NoVoter),
+            Trio::Module(m) => self.modules.relabel(m, code).ok_or(Refusal::NoModule),
         }
-        Ok(())
     }
 }

@@ -7,7 +7,7 @@ ghost use Rattle.refusals.specs.Refusals.{answered, first_due};
 ghost use Rattle.cabinet.specs.Cabinets.{network};
 
 use super::Cabinet;
-use network::Trio;
+use network::{Link, Trio};
 use refusals::Refusal;
 
 impl Cabinet {
@@ -36,12 +36,12 @@ impl Cabinet {
     }
 
     // Whether a link stands.
-    pub fn is_linked(&self, voter: usize, module: usize) -> Result<bool, Refusal>
-        ensures { result ≡ link_answer (network self.now) voter «module» }
+    pub fn is_linked(&self, link: Link) -> Result<bool, Refusal>
+        ensures { result ≡ link_answer (network self.now) link.voter link.«module» }
     {
-        self.present(Trio::Voter(voter))?;
-        self.present(Trio::Module(module))?;
-        Ok(self.links.stands(voter, module))
+        self.present(Trio::Voter(link.voter))?;
+        self.present(Trio::Module(link.module))?;
+        Ok(self.links.stands(link))
     }
 
     // The cabinet has the trio, or the refusal says which kind is lacking.

@@ -1,29 +1,28 @@
 -- A module trio is added where there is room.
-use Rattle.std.proofs.Common.{Ok, sym, ap, ◌∙◌}
-use Rattle.network.specs.Changes.{add_module, refusal}
+use Rattle.std.proofs.Common.{◌≡◌, ltb, length, is_some, ap, ◌∙◌}
+use Rattle.std.specs.Option.{ok_or}
+use Rattle.network.specs.Changes.{add_module, network_after, refusal}
 use Rattle.refusals.specs.declared.Refusal.TheVariants.{ModulesFull}
-use Rattle.network.proofs.Dues.{answers_refusal, answers_value}
+use Rattle.wiring.specs.Tables.{codes}
 use Rattle.cabinet.specs.Cabinets.{network}
-use Rattle.cabinet.proofs.Calls.{added_module, free_module, full_modules, still_within}
+use Rattle.cabinet.specs.Parts.{network_of}
+use Rattle.cabinet.proofs.Calls.{added_module, answers_room, free_module, full_modules, some_if, still_within}
 use Rattle.cabinet.proofs.cabinet.Cabinet.add_module.Goals as goal
+use Rattle.cabinet.proofs.cabinet.Cabinet.add_module.Goals.{After-push}
+
+done : (c : After-push) → network_of c.args.self.now.voters c.push.new.self c.args.self.now.links ≡ network_after (add_module c.args.code) (network c.args.self.now)
+done c =
+    let s = c.args.self.now in
+    added_module s.voters s.modules s.links c.args.code c.push.new.self (is_some c.push.result) (ap is_some c.push.ensures.value ∙ some_if (ltb (length (codes s.modules)) 15) _) c.push.ensures.after
 
 pub invariant_of-self : goal.invariant_of-self
-invariant_of-self c =
-    let s = c.args.self.now in
-    record { limits = still_within (add_module c.args.code) (network s) _ s.limits (added_module s.voters s.modules s.links c.args.code c.push.new.self c.push.result c.push.ensures.value c.push.ensures.after) }
-
-pub returns-then-not-push : goal.returns-then-not-push
-returns-then-not-push c =
-    let s = c.args.self.now in
-    record {
-      answer = answers_refusal (refusal (add_module c.args.code) (network s)) ModulesFull _ (full_modules s.voters s.modules s.links c.args.code (sym c.push.ensures.value ∙ c.if-not-push.true));
-      after = added_module s.voters s.modules s.links c.args.code c.push.new.self c.push.result c.push.ensures.value c.push.ensures.after;
-    }
+invariant_of-self c = record { limits = still_within (add_module c.args.code) (network c.args.self.now) _ c.args.self.now.limits (done c) }
 
 pub returns : goal.returns
 returns c =
     let s = c.args.self.now in
     record {
-      answer = ap Ok c.len-number.ensures ∙ answers_value (refusal (add_module c.args.code) (network s)) _ (free_module s.voters s.modules s.links c.args.code (sym c.push.ensures.value ∙ c.if-not-push.false));
-      after = added_module s.voters s.modules s.links c.args.code c.push.new.self c.push.result c.push.ensures.value c.push.ensures.after;
+      answer = c.ok_or.ensures.value ∙ ap (λ o. ok_or o ModulesFull) c.push.ensures.value
+          ∙ answers_room (ltb (length (codes s.modules)) 15) (refusal (add_module c.args.code) (network s)) ModulesFull _ (free_module s.voters s.modules s.links c.args.code) (full_modules s.voters s.modules s.links c.args.code);
+      after = done (goal.at.returns c).After-push;
     }

@@ -1,15 +1,15 @@
 -- Each trio that is the first of its cell adds the cell.
 use Rattle.std.proofs.Common.{◌≡◌, ◌+◌, ◌<◌, ◌≤◌, length, get_or, sym, ap, ◌∙◌, subst, arith}
 use Rattle.std.proofs.lemmas.List.{length_push}
-use Rattle.std.proofs.lemmas.Bool.{cond-true, lt-ltb}
 use Rattle.network.specs.Networks.{module_count, trios, voter_count}
 use Rattle.network.specs.declared.Trio.{Trio}
 use Rattle.network.specs.declared.Trio.TheVariants.{Voter}
 use Rattle.network.proofs.Keeps.{limits}
 use Rattle.network.proofs.Trios.{length_trios, trio_present}
-use Rattle.cabinet.specs.CellLists.{listed, shown_list}
+use Rattle.cabinet.specs.CellLists.{shown_list}
 use Rattle.cabinet.specs.Cabinets.{network}
-use Rattle.cabinet.specs.declared.cell_list.CellList.{CellList}
+use Rattle.arrayvec.specs.ArrayVec.{ArrayVec}
+use Rattle.wiring.specs.declared.cell.Cell.{Cell}
 use Rattle.cabinet.proofs.CellsOf.{Around, shown_are}
 use Rattle.cabinet.proofs.Listing.{all_listed, cells_so_far, no_more_cell, one_more_cell, starts_leads}
 use Rattle.cabinet.proofs.cabinet.Cabinet.cells.Goals as goal
@@ -20,6 +20,11 @@ overflow_add-k-end c = let l = limits (network c.args.self.now) c.args.self.now.
 
 pub loop-k-init : goal.loop-k-init
 loop-k-init c = (rw c.new-list.ensures (omega arith), ap shown_list c.new-list.ensures)
+
+pub push-requires : goal.push-requires
+push-requires c =
+    let l = limits (network c.args.self.now) c.args.self.now.limits in
+    (omega arith, omega (arith, l.few_voters, l.few_modules, c.len.ensures, c.len-2.ensures, c.loop-k.invariant.0))
 
 pub loop-k-preserved : goal.loop-k-preserved
 loop-k-preserved c =
@@ -37,12 +42,11 @@ loop-k-preserved c =
     let same = shown_are n t cell l.few_voters l.few_modules l.insides here around in
     let starts = ap (λ x. Rattle.wiring.specs.CellSets.starts_at cell x) (sym is) ∙ sym c.starts_at.ensures in
     let first = sym (starts_leads n t cell l.insides l.few_voters l.few_modules here around) ∙ starts in
-    let P : CellList → Type 0 = λ x. (length (listed x) ≤ k + 1) × (shown_list (listed x) ≡ cells_so_far n (k + 1)) in
+    let P : ArrayVec Cell → Type 0 = λ x. (length x.items ≤ k + 1) × (shown_list x.items ≡ cells_so_far n (k + 1)) in
     elim c.if-starts_at.branch [
       | then-starts_at w ↦
-          let added = w.push.ensures ∙ cond-true _ _ _ (lt-ltb (length (listed c.loop-k.list)) 31 (omega (arith, c.loop-k.invariant.0, more, l.few_voters, l.few_modules))) in
-          subst P (sym w.list-is) (omega (arith, ap length added, length_push (listed c.loop-k.list) cell, c.loop-k.invariant.0), one_more_cell n k within (listed c.loop-k.list) _ cell c.loop-k.invariant.1 added same (first ∙ w.if-starts_at.true))
-      | else-starts_at w ↦ subst P (sym w.list-is) (omega (arith, c.loop-k.invariant.0), no_more_cell n k within (listed c.loop-k.list) c.loop-k.invariant.1 (first ∙ w.if-starts_at.false))
+          subst P (sym w.list-is) (omega (arith, ap length w.push.ensures.items, length_push c.loop-k.list.items cell, c.loop-k.invariant.0), one_more_cell n k within c.loop-k.list.items _ cell c.loop-k.invariant.1 w.push.ensures.items same (first ∙ w.if-starts_at.true))
+      | else-starts_at w ↦ subst P (sym w.list-is) (omega (arith, c.loop-k.invariant.0), no_more_cell n k within c.loop-k.list.items c.loop-k.invariant.1 (first ∙ w.if-starts_at.false))
     ]
 
 pub returns : goal.returns
