@@ -10,7 +10,7 @@ use Rattle.algebra.specs.Laws.{Kind}
 use Rattle.algebra.specs.Sums.{product, sum}
 use Rattle.algebra.proofs.Steps.{product_append, sum_next}
 use Rattle.method.specs.Groups.{combination, group, heads, left_out, unfed}
-use Rattle.method.specs.Method.{cell_weight, combination_weight, group_weight}
+use Rattle.method.specs.Method.{cell_weight, combination_weight, group_weight, module_weights, voter_weights}
 use Rattle.network.specs.Cells.{Members}
 use Rattle.network.specs.Patterns.{whole}
 use Rattle.sets.specs.Sets.{member, members}
@@ -21,8 +21,7 @@ use Rattle.wiring.specs.CellSets.{shown}
 use Rattle.wiring.specs.Wires.{fed_by_some, link_list}
 use Rattle.wiring.specs.declared.cell.Cell.{Cell}
 use Rattle.wiring.specs.declared.links.Links.{Links}
-use Rattle.weighing.specs.Entries.{Reaches, first_members, share_at, shown_below}
-use Rattle.weighing.specs.declared.weights.Role.TheVariants.{Source, Place}
+use Rattle.weighing.specs.Entries.{Reaches, first_members, read_all, shown_below}
 use Rattle.weighing.specs.declared.weights.Weights.{Weights}
 use Rattle.weighing.proofs.Chosen.{kept_agree}
 use Rattle.weighing.proofs.Gathered.{product_below, product_with, product_without}
@@ -57,10 +56,10 @@ module _ (s cut : TrioSet) (n : ℕ) (is : (k : ℕ) → member cut k ≡ (membe
 
 module _ (k : Kind) {W : Type 0} (value : W → k.Value) (vs ms : List (Weights W)) (ls : Links) (cell : Cell) where
   abbrev pub group_from : TrioSet → ℕ → k.Value
-  group_from chosen v = group_weight k (share_at k value Source vs) (share_at k value Place ms) (group (link_list ls) (members chosen) (members cell.modules) v)
+  group_from chosen v = group_weight k (voter_weights k (read_all value vs)) (module_weights k (read_all value ms)) (group (link_list ls) (members chosen) (members cell.modules) v)
 
   abbrev pub one_combination : List ℕ → k.Value
-  one_combination chosen = combination_weight k (share_at k value Source vs) (share_at k value Place ms) (link_list ls) (shown cell) chosen
+  one_combination chosen = combination_weight k (voter_weights k (read_all value vs)) (module_weights k (read_all value ms)) (link_list ls) (shown cell) chosen
 
   -- the groups that start below v
   abbrev pub groups_below : TrioSet → ℕ → k.Value
@@ -70,9 +69,9 @@ module _ (k : Kind) {W : Type 0} (value : W → k.Value) (vs ms : List (Weights 
   abbrev pub combinations_below : ℕ → k.Value
   combinations_below j = sum k (λ i. one_combination (combination (members cell.voters) i)) (range_with_len 0 j)
 
-  pub group_on : (chosen : TrioSet) (v : ℕ) (found : Members) (x y : k.Value) → head ls chosen v ≡ true → ◌≡◌ {A = Members} found (group (link_list ls) (members chosen) (members cell.modules) v) → x ≡ groups_below chosen v → y ≡ k.times x (group_weight k (share_at k value Source vs) (share_at k value Place ms) found) → y ≡ groups_below chosen (v + 1)
+  pub group_on : (chosen : TrioSet) (v : ℕ) (found : Members) (x y : k.Value) → head ls chosen v ≡ true → ◌≡◌ {A = Members} found (group (link_list ls) (members chosen) (members cell.modules) v) → x ≡ groups_below chosen v → y ≡ k.times x (group_weight k (voter_weights k (read_all value vs)) (module_weights k (read_all value ms)) found) → y ≡ groups_below chosen (v + 1)
   group_on chosen v found x y first is before now =
-      now ∙ (λ i. k.times (before i) (group_weight k (share_at k value Source vs) (share_at k value Place ms) (is i))) ∙ sym (product_with k (group_from chosen) (head ls chosen) v first)
+      now ∙ (λ i. k.times (before i) (group_weight k (voter_weights k (read_all value vs)) (module_weights k (read_all value ms)) (is i))) ∙ sym (product_with k (group_from chosen) (head ls chosen) v first)
 
   pub group_past : (chosen : TrioSet) (v : ℕ) (x : k.Value) → head ls chosen v ≡ false → x ≡ groups_below chosen v → x ≡ groups_below chosen (v + 1)
   group_past chosen v x not_first before = before ∙ sym (product_without k (group_from chosen) (head ls chosen) v not_first)
@@ -80,24 +79,24 @@ module _ (k : Kind) {W : Type 0} (value : W → k.Value) (vs ms : List (Weights 
   module _ (chosen rest fed alone : TrioSet) (rest_is : (i : ℕ) → member rest i ≡ (member cell.voters i && not (member chosen i))) (fed_is : (m : ℕ) → member fed m ≡ fed_by_some ls chosen m) (alone_is : (m : ℕ) → member alone m ≡ (member cell.modules m && not (member fed m))) where
     module _ (voters : Reaches (length vs) cell.voters) (modules : Reaches (length ms) cell.modules) where
       pub combination_is : (apart groups unfed' : k.Value) (v : ℕ) → v ≡ 16
-          → apart ≡ product k (λ v. share_at k value Source vs v whole) (first_members rest (length vs)) → groups ≡ groups_below chosen v → unfed' ≡ product k (λ m. share_at k value Place ms m whole) (first_members alone (length ms))
+          → apart ≡ product k (λ v. voter_weights k (read_all value vs) v whole) (first_members rest (length vs)) → groups ≡ groups_below chosen v → unfed' ≡ product k (λ m. module_weights k (read_all value ms) m whole) (first_members alone (length ms))
           → k.times (k.times apart groups) unfed' ≡ one_combination (members chosen)
       combination_is apart groups unfed' v all a g u = λ i. k.times (k.times (first i) (second i)) (third i)
         where
-          first : apart ≡ product k (λ v. share_at k value Source vs v whole) (left_out (members chosen) (members cell.voters))
-          first = a ∙ ap (product k (λ v. share_at k value Source vs v whole)) (first_all rest (length vs) (λ i h. voters i (and_parts (member cell.voters i) (not (member chosen i)) (sym (rest_is i) ∙ h)).0) ∙ members_left cell.voters chosen rest rest_is)
+          first : apart ≡ product k (λ v. voter_weights k (read_all value vs) v whole) (left_out (members chosen) (members cell.voters))
+          first = a ∙ ap (product k (λ v. voter_weights k (read_all value vs) v whole)) (first_all rest (length vs) (λ i h. voters i (and_parts (member cell.voters i) (not (member chosen i)) (sym (rest_is i) ∙ h)).0) ∙ members_left cell.voters chosen rest rest_is)
 
           second : groups ≡ product k (group_from chosen) (heads (link_list ls) (members chosen))
           second = g ∙ ap (groups_below chosen) all ∙ ap (product k (group_from chosen)) (sym (heads_are ls chosen))
 
-          third : unfed' ≡ product k (λ m. share_at k value Place ms m whole) (unfed (link_list ls) (members chosen) (members cell.modules))
-          third = u ∙ ap (product k (λ m. share_at k value Place ms m whole)) (first_all alone (length ms) (λ i h. modules i (and_parts (member cell.modules i) (not (member fed i)) (sym (alone_is i) ∙ h)).0) ∙ members_unfed ls chosen cell.modules fed alone fed_is alone_is)
+          third : unfed' ≡ product k (λ m. module_weights k (read_all value ms) m whole) (unfed (link_list ls) (members chosen) (members cell.modules))
+          third = u ∙ ap (product k (λ m. module_weights k (read_all value ms) m whole)) (first_all alone (length ms) (λ i h. modules i (and_parts (member cell.modules i) (not (member fed i)) (sym (alone_is i) ∙ h)).0) ∙ members_unfed ls chosen cell.modules fed alone fed_is alone_is)
 
   pub combination_on : (j : ℕ) (chosen : TrioSet) (x y z : k.Value) → members chosen ≡ combination (members cell.voters) j → z ≡ one_combination (members chosen) → x ≡ combinations_below j → y ≡ k.plus x z → y ≡ combinations_below (j + 1)
   combination_on j chosen x y z is here before now =
       now ∙ (λ i. k.plus (before i) ((here ∙ ap one_combination is) i)) ∙ sym (sum_next k (λ i. one_combination (combination (members cell.voters) i)) j)
 
-  pub all_combinations : (j : ℕ) (x : k.Value) → j ≡ 2 ^ length (members cell.voters) → x ≡ combinations_below j → x ≡ cell_weight k (share_at k value Source vs) (share_at k value Place ms) (link_list ls) (shown cell)
+  pub all_combinations : (j : ℕ) (x : k.Value) → j ≡ 2 ^ length (members cell.voters) → x ≡ combinations_below j → x ≡ cell_weight k (voter_weights k (read_all value vs)) (module_weights k (read_all value ms)) (link_list ls) (shown cell)
   unfolding cell_weight
   all_combinations j x all before = before ∙ ap combinations_below all
 
@@ -112,7 +111,7 @@ combination_count s len is =
 
 module _ (k : Kind) {W : Type 0} (value : W → k.Value) (vs ms : List (Weights W)) (ls : Links) (cells : List Cell) where
   abbrev weight_of : Members → k.Value
-  weight_of = cell_weight k (share_at k value Source vs) (share_at k value Place ms) (link_list ls)
+  weight_of = cell_weight k (voter_weights k (read_all value vs)) (module_weights k (read_all value ms)) (link_list ls)
 
   -- the cells below i
   abbrev pub cells_so_far : ℕ → k.Value

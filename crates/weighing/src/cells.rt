@@ -6,11 +6,10 @@ ghost use Rattle.method.specs.Method.{cell_weight, group_weight, module_weights,
 ghost use Rattle.sets.specs.Sets.{members};
 ghost use Rattle.wiring.specs.CellSets.{shown};
 ghost use Rattle.wiring.specs.Wires.{link_list};
-ghost use Rattle.weighing.specs.Entries.{Reaches, first_members, read_all, share_at, shown_below};
-ghost use Rattle.weighing.specs.declared.weights.Role.TheVariants.{Source, Place};
+ghost use Rattle.weighing.specs.Entries.{Reaches, first_members, read_all, shown_below};
 
-use crate::products::{product_apart, product_grouped};
-use crate::weights::{Role, Weights};
+use crate::products::product_over;
+use crate::weights::Weights;
 use algebra::Weight;
 use network::Trio;
 use sets::TrioSet;
@@ -47,7 +46,7 @@ fn weigh_cell<W: Weight>(
 ) -> W
     requires voters { Reaches (length voters.now) cell.voters }
     requires modules { Reaches (length modules.now) cell.modules }
-    ensures { W.Weight.value result ≡ cell_weight W.Weight.kind (share_at W.Weight.kind W.Weight.value Source voters.now) (share_at W.Weight.kind W.Weight.value Place modules.now) (link_list links.now) (shown cell) }
+    ensures { W.Weight.value result ≡ cell_weight W.Weight.kind (voter_weights W.Weight.kind (read_all W.Weight.value voters.now)) (module_weights W.Weight.kind (read_all W.Weight.value modules.now)) (link_list links.now) (shown cell) }
 {
     let mut total = W::nothing();
     for j in 0..1 << cell.voters.len() {
@@ -63,11 +62,11 @@ fn weigh_cell<W: Weight>(
                 ungrouped = ungrouped.difference(group.voters);
             }
         }
-        let whole = product_apart(voters, Role::Source, cell.voters.difference(chosen));
-        let unfed = product_apart(
+        let whole = product_over(voters, cell.voters.difference(chosen), |w| w.whole);
+        let unfed = product_over(
             modules,
-            Role::Place,
             cell.modules.difference(links.fed_by(chosen)),
+            |w| w.in_any_state(),
         );
         total = total.plus(&whole.times(&groups).times(&unfed));
     }
@@ -81,12 +80,11 @@ fn weigh_group<W: Weight>(
     group: TrioSet,
     fed: TrioSet,
 ) -> W
-    ensures { W.Weight.value result ≡ group_weight W.Weight.kind (share_at W.Weight.kind W.Weight.value Source voters.now) (share_at W.Weight.kind W.Weight.value Place modules.now) (first_members group (length voters.now), first_members fed (length modules.now)) }
+    ensures { W.Weight.value result ≡ group_weight W.Weight.kind (voter_weights W.Weight.kind (read_all W.Weight.value voters.now)) (module_weights W.Weight.kind (read_all W.Weight.value modules.now)) (first_members group (length voters.now), first_members fed (length modules.now)) }
 {
-    let faults = product_grouped(voters, Role::Source, group);
-    faults
-        .times(&product_grouped(modules, Role::Place, fed))
-        .sum()
+    let faults = product_over(voters, group, |w| w.faulty);
+    let places = product_over(modules, fed, |w| w.whole_or_faulty());
+    faults.times(&places).sum()
 }
 
 // Combination `j` of some voters: the i-th of them where binary digit i of `j` is 1.

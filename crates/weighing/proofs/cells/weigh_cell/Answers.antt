@@ -1,13 +1,14 @@
 -- Each combination adds its weight, and in it each group is found at its first voter.
-use Rattle.std.proofs.Common.{◌+◌, length, sym, ap, ◌∙◌, subst, arith}
+use Rattle.std.proofs.Common.{◌≡◌, rules, of_calls, ◌+◌, length, sym, ap, ◌∙◌, subst, arith}
 use Rattle.std.proofs.lemmas.Bool.{and_parts}
-use Rattle.method.specs.Method.{group_weight}
+use Rattle.method.specs.Method.{group_weight, merged, module_weights, voter_weights}
+use Rattle.network.specs.Patterns.{whole}
 use Rattle.sets.specs.Sets.{member}
 use Rattle.sets.specs.declared.TrioSet.{TrioSet}
 use Rattle.sets.proofs.Members.{len_bound}
-use Rattle.weighing.specs.Entries.{share_at}
-use Rattle.weighing.specs.declared.weights.Role.TheVariants.{Source, Place}
+use Rattle.weighing.specs.Entries.{read, read_all}
 use Rattle.weighing.proofs.Chosen.{chosen_inside}
+use Rattle.weighing.proofs.Gathered.{read_at}
 use Rattle.weighing.proofs.Grouped.{Ungrouped, found_inside, found_voters, group_is, left_head, ungrouped_less, ungrouped_same, ungrouped_start}
 use Rattle.weighing.proofs.Weighed.{all_combinations, combination_count, combination_is, combination_on, first_all, group_on, group_past}
 use Rattle.weighing.proofs.cells.weigh_cell.Goals as goal
@@ -46,7 +47,7 @@ loop-v-preserved g c =
           let inside = found_inside ls chosen v left so_far own found cell.modules fed there own_is around fed_is in
           let voters-all = first_all found.voters (length vs) (λ k h. c.requires.voters k (chosen_inside cell.voters chosen c.loop-j.j c.combination_of-chosen.ensures k (inside k h))) in
           let fed-all = first_all fed (length ms) (λ k h. c.requires.modules k (and_parts (member found.modules k) (member cell.modules k) (sym (fed_is k) ∙ h)).1) in
-          let weighed = y.weigh_group.ensures ∙ (λ i. group_weight w.kind (share_at w.kind w.value Source vs) (share_at w.kind w.value Place ms) (voters-all i, fed-all i)) in (
+          let weighed = y.weigh_group.ensures ∙ (λ i. group_weight w.kind (voter_weights w.kind (read_all w.value vs)) (module_weights w.kind (read_all w.value ms)) (voters-all i, fed-all i)) in (
             subst P (sym y.ungrouped-is) (ungrouped_less ls chosen v left so_far y.difference-ungrouped.result found.voters there (found_voters ls chosen v left so_far own found cell.modules fed there own_is around fed_is) y.difference-ungrouped.ensures),
             group_on w.kind w.value vs ms ls cell chosen v _ _ _ (sym (left_head ls chosen v left so_far) ∙ there)
                 (group_is ls chosen v left so_far own found cell.modules fed there own_is around fed_is)
@@ -71,9 +72,11 @@ loop-j-preserved g c =
     combination_on w.kind w.value vs ms ls cell c.loop-j.j chosen _ _ _ c.combination_of-chosen.ensures
     (combination_is w.kind w.value vs ms ls cell chosen c.difference.result c.fed_by.result c.difference-in-loop-j.result c.difference.ensures c.fed_by.ensures c.difference-in-loop-j.ensures c.requires.voters c.requires.modules
     _ _ _ c.loop-v.v (omega (arith, c.loop-v-test.false, c.loop-v.auto.v-end))
-    c.product_apart-whole.ensures c.loop-v.invariant.1 c.product_apart-unfed.ensures)
+    (c.product_over-whole.ensures (λ v. voter_weights w.kind (read_all w.value vs) v whole) (λ i x r is gives. let e : w.value r ≡ w.value x.whole = search (rules, of_calls) in e ∙ (λ t. read_at w.kind w.value vs i x is t whole)))
+    c.loop-v.invariant.1
+    (c.product_over-unfed.ensures (λ m. module_weights w.kind (read_all w.value ms) m whole) (λ i x r is gives. let e : w.value r ≡ merged w.kind (read w.value x) whole = search (rules, of_calls) in e ∙ (λ t. merged w.kind (read_at w.kind w.value ms i x is t) whole))))
     c.loop-j.invariant
-    (c.plus-total.ensures ∙ ap (w.kind.plus (w.value c.loop-j.total)) (c.times-in-loop-j.ensures ∙ ap (λ x. w.kind.times x (w.value c.product_apart-unfed.result)) c.times.ensures))
+    (c.plus-total.ensures ∙ ap (w.kind.plus (w.value c.loop-j.total)) (c.times-in-loop-j.ensures ∙ ap (λ x. w.kind.times x (w.value c.product_over-unfed.result)) c.times.ensures))
 
 pub returns : goal.returns
 returns g c =
