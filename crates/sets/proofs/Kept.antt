@@ -1,8 +1,8 @@
 -- What a test keeps of a list, and whether it holds of some element.
-use Rattle.std.proofs.Common.{◌≡◌, ℕ, zero, suc, ◌+◌, ◌<◌, ◌≤◌, Bool, true, false, cond, ◌&&◌, ◌||◌, eqb, List, [], ◌∷◌, ◌++◌, map, length, get_or, Some, None, filter, sym, refl, ap, ◌∙◌, inl, inr, ⊎_elim, arith}
+use Rattle.std.proofs.Common.{◌≡◌, ℕ, zero, suc, ◌+◌, ◌<◌, ◌≤◌, Bool, true, false, cond, not, ◌&&◌, ◌||◌, eqb, List, [], ◌∷◌, ◌++◌, map, length, get_or, Some, None, filter, sym, refl, ap, ◌∙◌, inl, inr, ⊎_elim, arith}
 use Rattle.std.specs.List.{range_with_len, flat_map}
 use Rattle.std.proofs.lemmas.List.FromFn.{length-range_with_len, get_or-range_with_len}
-use Rattle.std.proofs.lemmas.Bool.{and_from, and_parts, both_ways, cases_Bool, cases_eq, eq-eqb, eqb-true, false≢true}
+use Rattle.std.proofs.lemmas.Bool.{and_from, and_parts, both_ways, cases_Bool, cases_eq, eq-eqb, ne_eqb, eqb-true, false≢true}
 use Rattle.sets.specs.Lists.{any, first_of}
 
 -- ---- two tests over one list
@@ -173,3 +173,45 @@ module _ (p : ℕ → Bool) where
           → (first_of (filter p (range_with_len (a + 1) n)) ≡ None → (k : ℕ) → a + 1 ≤ k → k < a + 1 + n → p k ≡ false) → p k ≡ false
       one true h e later = let z : ◌≡◌ {A = ℕ} 0 1 = cc in absurd (omega arith)
       one false h e later = same_or_later a k l h (λ m. later e k m (omega arith))
+
+-- two tests that agree on the numbers from a on keep the same of them
+pub kept_agree : (p q : ℕ → Bool) (a n : ℕ) → ((k : ℕ) → a ≤ k → k < a + n → p k ≡ q k) → filter p (range_with_len a n) ≡ filter q (range_with_len a n)
+kept_agree p q a zero h = refl
+kept_agree p q a (suc n) h =
+    let rest = kept_agree p q (a + 1) n (λ k l u. h k (omega arith) (omega arith)) in
+    λ i. cond (h a (omega arith) (omega arith) i) (a ∷ rest i) (rest i)
+
+-- what a test keeps is the least, and then what is kept without it
+module _ (p q : ℕ → Bool) (i : ℕ) (without : (k : ℕ) → q k ≡ (p k && not (eqb k i))) where
+  at_first : (a : ℕ) → a ≡ i → q a ≡ false
+  at_first a s = without a ∙ ap (λ b. p a && not b) (eq-eqb a i s) ∙ and_right (p a)
+    where
+      and_right : (b : Bool) → (b && false) ≡ false
+      and_right true = refl
+      and_right false = refl
+
+  past_first : (k : ℕ) → i + 1 ≤ k → p k ≡ q k
+  past_first k l = sym (without k ∙ ap (λ b. p k && not b) (ne_eqb k i (λ s. absurd (omega arith))) ∙ and_true (p k))
+    where
+      and_true : (b : Bool) → (b && true) ≡ b
+      and_true true = refl
+      and_true false = refl
+
+  pub kept_after_first : (a n : ℕ) → first_of (filter p (range_with_len a n)) ≡ Some i → filter p (range_with_len a n) ≡ i ∷ filter q (range_with_len a n)
+  kept_after_first a zero e = let z : ◌≡◌ {A = ℕ} 0 1 = cc in absurd (omega arith)
+  kept_after_first a (suc n) e = one (p a) refl e (kept_after_first (a + 1) n)
+    where
+      kept : List ℕ
+      kept = filter p (range_with_len (a + 1) n)
+
+      left : List ℕ
+      left = filter q (range_with_len (a + 1) n)
+
+      dropped : q a ≡ false → left ≡ cond (q a) (a ∷ left) left
+      dropped out = sym (ap (λ c. cond c (a ∷ left) left) out)
+
+      one : (b : Bool) → p a ≡ b → first_of (cond b (a ∷ kept) kept) ≡ Some i → (first_of kept ≡ Some i → kept ≡ i ∷ left) → cond b (a ∷ kept) kept ≡ i ∷ cond (q a) (a ∷ left) left
+      one true h e later =
+          let s : a ≡ i = cc in
+          ap (λ k. k ∷ kept) s ∙ ap (λ l. i ∷ l) (kept_agree p q (a + 1) n (λ k l u. past_first k (omega arith)) ∙ dropped (at_first a s))
+      one false h e later = later e ∙ ap (λ l. i ∷ l) (dropped (without a ∙ ap (λ b. b && not (eqb a i)) h))

@@ -4,10 +4,11 @@
 
 ghost use Rattle.std.specs.Prelude.{◌≡◌, ℕ, false, not, ◌&&◌, ◌||◌, length, ◌==◌, nat_lt};
 ghost use Rattle.sets.specs.Lists.{first_of};
-ghost use Rattle.sets.specs.Sets.{member, members, overlap};
+ghost use Rattle.sets.specs.Sets.{member, members, overlap, to_come};
+ghost use Rattle.std.specs.Iterator.{YieldsFirst, item_count};
 
 // Some of the numbers 0 to 15: voter trios, or module trios, of one cabinet.
-#[derive(Clone, Copy)]
+#[derive(Clone, Copy, PartialEq, Eq, Debug, Default)]
 pub struct TrioSet {
     bits: u16,
 }
@@ -112,5 +113,37 @@ impl TrioSet {
             return None;
         }
         Some(self.bits.trailing_zeros() as usize)
+    }
+}
+
+// The members that are still to come, least first.
+#[derive(Clone, Copy)]
+pub struct Iter {
+    left: TrioSet,
+}
+
+impl Iterator for Iter {
+    type Item = usize;
+
+    ghost next_gives = { YieldsFirst to_come };
+
+    ghost remaining = { item_count to_come };
+
+    fn next(&mut self) -> Option<usize> {
+        let least = self.left.first()?;
+        self.left = self.left.without(least);
+        Some(least)
+    }
+}
+
+impl IntoIterator for TrioSet {
+    type Item = usize;
+
+    type IntoIter = Iter;
+
+    ghost into_iter_gives = { λ set iter. to_come iter ≡ members set };
+
+    fn into_iter(self) -> Iter {
+        Iter { left: self }
     }
 }
