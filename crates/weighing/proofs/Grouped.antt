@@ -1,7 +1,7 @@
 -- The groups of a combination, found one after the other.
-use Rattle.std.proofs.Common.{◌≡◌, ℕ, ◌+◌, ◌<◌, Bool, true, false, not, ◌&&◌, eqb, ltb, List, map, filter, sym, refl, ap, ◌∙◌, subst, ⊎_elim, arith}
+use Rattle.std.proofs.Common.{◌≡◌, ℕ, ◌+◌, ◌<◌, ◌≤◌, Bool, true, false, not, ◌&&◌, eqb, ltb, List, length, map, filter, sym, refl, ap, ◌∙◌, subst, ⊎_elim, arith}
 use Rattle.std.specs.List.{range_with_len}
-use Rattle.std.proofs.lemmas.Bool.{and_from, and_parts, and_right, both_ways, cases_Bool, cases_eq, eq-eqb, eqb-true, lt-ltb, ltb-true, not-true}
+use Rattle.std.proofs.lemmas.Bool.{and_from, and_parts, and_right, both_ways, cases_Bool, cases_eq, cases_lt, eq-eqb, eqb-true, lt-ltb, ltb-true, not-true}
 use Rattle.method.specs.Groups.{among, group, heads, left_out, links_of, tied, unfed}
 use Rattle.method.proofs.Lists.{kept_twice, same_test}
 use Rattle.network.specs.Cells.{Members, edge}
@@ -9,13 +9,13 @@ use Rattle.network.specs.Chains.{Chain, none, more, ends_at, joined}
 use Rattle.network.specs.Networks.{Link, stands}
 use Rattle.network.specs.declared.Trio.{Trio}
 use Rattle.network.specs.declared.Trio.TheVariants.{Voter, Module}
-use Rattle.network.proofs.Chains.{chain_from_joined, joined_on}
+use Rattle.network.proofs.Chains.{chain_from_joined, joined_itself, joined_on}
 use Rattle.network.proofs.Inside.{step_link}
 use Rattle.sets.specs.Lists.{any}
 use Rattle.sets.specs.Sets.{member, members}
 use Rattle.sets.specs.declared.TrioSet.{TrioSet}
 use Rattle.sets.proofs.Kept.{any_below_from, any_below_true, any_kept, kept_same}
-use Rattle.sets.proofs.Members.{member_below}
+use Rattle.sets.proofs.Members.{full_subset, member_below}
 use Rattle.wiring.specs.CellSets.{holds, in_range}
 use Rattle.wiring.specs.Wires.{edge_list, fed_by_some, feeds, link_list}
 use Rattle.wiring.specs.declared.cell.Cell.{Cell}
@@ -115,6 +115,15 @@ module _ (ls : Links) (chosen : TrioSet) where
     -- v is left exactly where it is the first of a group
     pub left_head : member left v ≡ head v
     left_head = so_far v
+
+    -- no voter below v is left
+    pub left_late : (k : ℕ) → member left k ≡ true → v ≤ k
+    unfolding TiedBelow
+    left_late k there = ⊎_elim
+        (λ early. let both = and_parts (member chosen k) (not (earlier_tied v k)) (sym (so_far k) ∙ there) in
+        absurd (both_ways (earlier_tied v k) (not-true (earlier_tied v k) both.1) (from_below v k (k, both.0, early, joined_itself (map edge (links_of (members chosen) (link_list ls))) (Voter k)))))
+        (λ late. late)
+        (cases_lt k v)
 
     -- v's group is found
     pub ungrouped_less : (rest group : TrioSet) → member left v ≡ true → ((k : ℕ) → member group k ≡ (ltb k 16 && joins (Voter v) (Voter k))) → ((k : ℕ) → member rest k ≡ (member left k && not (member group k))) → Ungrouped rest (v + 1)
@@ -220,3 +229,13 @@ module _ (ls : Links) (chosen : TrioSet) where
     where
       same : (m : ℕ) → any (λ v. member chosen v && feeds ls v m) (range_with_len 0 16) ≡ any (λ v. stands (link_list ls) (v, m)) (members chosen)
       same m = (λ i. any (λ v. member chosen v && sym (stands_list ls (v, m)) i) (range_with_len 0 16)) ∙ sym (any_kept (λ v. stands (link_list ls) (v, m)) (member chosen) (range_with_len 0 16))
+
+-- what is left of a set without a group that has one of its members is smaller
+pub fewer : (left group rest : TrioSet) (v : ℕ) → member left v ≡ true → member group v ≡ true → ((k : ℕ) → member rest k ≡ (member left k && not (member group k))) → length (members rest) < length (members left)
+fewer left group rest v there found less = ⊎_elim
+    (λ h. h)
+    (λ full. absurd (both_ways (member rest v) (less v ∙ (λ i. there i && not (found i))) (full_subset rest left sub full v there)))
+    (cases_lt (length (members rest)) (length (members left)))
+  where
+    sub : (k : ℕ) → member rest k ≡ true → member left k ≡ true
+    sub k h = (and_parts (member left k) (not (member group k)) (sym (less k) ∙ h)).0
