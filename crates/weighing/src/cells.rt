@@ -91,13 +91,11 @@ pub fn combination_of(voters: TrioSet, j: usize) -> TrioSet
 {
     let mut chosen = TrioSet::empty();
     let mut digits = j;
-    for v in 0..16 {
-        if voters.contains(v) {
-            if digits % 2 == 1 {
-                chosen = chosen.with(v);
-            }
-            digits /= 2;
+    for v in voters {
+        if digits % 2 == 1 {
+            chosen = chosen.with(v);
         }
+        digits /= 2;
     }
     chosen
 }
