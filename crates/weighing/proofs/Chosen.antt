@@ -6,16 +6,10 @@ use Rattle.std.proofs.lemmas.Bool.Decides.{nat_tests}
 use Rattle.method.specs.Groups.{among, combination}
 use Rattle.sets.specs.Sets.{member, members}
 use Rattle.sets.specs.declared.TrioSet.{TrioSet}
-use Rattle.sets.proofs.Kept.{kept_none}
+use Rattle.sets.proofs.Kept.{kept_agree, kept_none}
 use Rattle.sets.proofs.Members.{members_below}
 use Rattle.weighing.proofs.Gathered.{kept_next}
 use Rattle.weighing.proofs.Grouped.{among_member}
-
--- two tests that agree on some numbers keep the same of them
-pub kept_agree : (p q : ℕ → Bool) (a n : ℕ) → ((k : ℕ) → a ≤ k → k < a + n → p k ≡ q k) → filter p (range_with_len a n) ≡ filter q (range_with_len a n)
-kept_agree p q a zero h = refl
-kept_agree p q a (suc n) h =
-    λ i. cond (h a (omega arith) (omega arith) i) (a ∷ kept_agree p q (a + 1) n (λ k lo hi. h k (omega arith) (omega arith)) i) (kept_agree p q (a + 1) n (λ k lo hi. h k (omega arith) (omega arith)) i)
 
 -- the numbers rise, from n on and below 16
 abbrev pub Rising : ℕ → List ℕ → Type 0

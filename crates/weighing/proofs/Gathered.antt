@@ -7,9 +7,9 @@ use Rattle.algebra.specs.Laws.{Kind}
 use Rattle.algebra.specs.Sums.{product, product_on}
 use Rattle.algebra.proofs.Steps.{product_append}
 use Rattle.method.specs.Method.{entry}
-use Rattle.network.specs.Patterns.{Position}
+use Rattle.network.specs.Patterns.{Position, State}
 use Rattle.network.proofs.Lists.{kept_counting_more}
-use Rattle.weighing.specs.Entries.{each_position, read, read_all}
+use Rattle.weighing.specs.Entries.{ReturnsByPlace, each_position, read, read_all}
 use Rattle.weighing.specs.declared.weights.Weights.{Weights}
 
 -- the numbers below n + 1 that pass
@@ -38,7 +38,13 @@ module _ (k : Kind) (f : ℕ → Position → k.Value) (p : Position) where
   pub product_at : (xs : List ℕ) (x : Position → k.Value) → x ≡ product (each_position k) f xs → x p ≡ product k (λ i. f i p) xs
   product_at xs x e = (λ j. e j p) ∙ product_on_at (λ q. k.unit) xs
 
--- an entry as what it is read as at its place
-pub read_at : (k : Kind) {W : Type 0} (value : W → k.Value) (ws : List (Weights W)) (i : ℕ) (w : Weights W) → slice_get ws i ≡ Some w → read value w ≡ entry k (read_all value ws) i
-read_at k value ws i w is =
-    sym (ap (read value) (get_or_from_slice_get ws i w w is)) ∙ sym (get_or-map (read value) ws i w (λ _. k.unit) (slice_get_within ws i w is))
+module _ (k : Kind) {W : Type 0} (value : W → k.Value) (ws : List (Weights W)) where
+  -- an entry as what it is read as at its place
+  read_at : (i : ℕ) (w : Weights W) → slice_get ws i ≡ Some w → read value w ≡ entry k (read_all value ws) i
+  read_at i w is =
+      sym (ap (read value) (get_or_from_slice_get ws i w w is)) ∙ sym (get_or-map (read value) ws i w (λ _. k.unit) (slice_get_within ws i w is))
+
+  -- what is returned at an entry is a share of its weights
+  pub by_place : {R V : Type 0} (returns : Weights W → R → Type 0) (stands_for : R → V) (share : (State → k.Value) → V) → ((w : Weights W) (r : R) → returns w r → stands_for r ≡ share (read value w))
+      → ReturnsByPlace returns stands_for ws (λ i. share (entry k (read_all value ws) i))
+  by_place returns stands_for share says i w r is gives = says w r gives ∙ ap share (read_at i w is)

@@ -1,11 +1,12 @@
 -- One combination of a cell weighed, and the sum over all of them.
-use Rattle.std.proofs.Common.{◌≡◌, ℕ, zero, suc, ◌+◌, ◌-◌, ◌*◌, ◌%◌, ◌^◌, ◌<◌, ◌≤◌, Bool, true, false, not, ◌&&◌, ltb, List, [], ◌∷◌, ◌++◌, map, length, get_or, take, filter, sym, refl, ap, ◌∙◌, subst, ⊎_elim, append-nil, mod-eq_of_lt, arith}
+use Rattle.std.proofs.Common.{◌≡◌, ℕ, zero, suc, ◌+◌, ◌-◌, ◌*◌, ◌%◌, ◌^◌, ◌<◌, ◌≤◌, true, false, not, ◌&&◌, ltb, List, [], ◌∷◌, ◌++◌, map, length, get_or, take, filter, sym, ap, ◌∙◌, subst, ⊎_elim, append-nil, mod-eq_of_lt, arith}
 use mathlib.Core.List.{map-append}
 use native.Mathlib.Nat.{pow-le-pow_right}
 use Rattle.std.specs.List.{range_with_len}
+use Rattle.std.proofs.Math.Bool.{and-true}
 use Rattle.std.proofs.lemmas.List.Elements.{filter-append}
 use Rattle.std.proofs.lemmas.List.{take_all, take_more}
-use Rattle.std.proofs.lemmas.Bool.{and_parts, cases_Bool, cases_lt, lt-ltb, ltb-true}
+use Rattle.std.proofs.lemmas.Bool.{and_parts, cases_lt, false_from_ne_true, lt-ltb, ltb-true}
 use Rattle.algebra.specs.Laws.{Kind}
 use Rattle.algebra.specs.Sums.{product, sum}
 use Rattle.algebra.proofs.Steps.{product_append, sum_next}
@@ -15,14 +16,13 @@ use Rattle.network.specs.Cells.{Members}
 use Rattle.network.specs.Patterns.{whole}
 use Rattle.sets.specs.Sets.{member, members}
 use Rattle.sets.specs.declared.TrioSet.{TrioSet}
-use Rattle.sets.proofs.Kept.{counting_split, kept_none}
+use Rattle.sets.proofs.Kept.{counting_split, kept_agree, kept_none}
 use Rattle.sets.proofs.Members.{len_bound, member_past, members_below}
 use Rattle.wiring.specs.Wires.{fed_by_some, link_list}
 use Rattle.wiring.specs.declared.cell.Cell.{Cell}
 use Rattle.wiring.specs.declared.links.Links.{Links}
 use Rattle.weighing.specs.Entries.{Reaches, first_members, read_all, shown_below}
 use Rattle.weighing.specs.declared.weights.Weights.{Weights}
-use Rattle.weighing.proofs.Chosen.{kept_agree}
 use Rattle.weighing.proofs.Gathered.{product_below, product_with, product_without}
 use Rattle.weighing.proofs.Grouped.{Ungrouped, head, heads_are, left_head, members_left, members_unfed, ungrouped_same}
 
@@ -32,7 +32,7 @@ unfolding first_members members
 first_all s n reaches = ⊎_elim (λ h. sym (members_below s n (omega (arith, h)) gone)) far (cases_lt n 16)
   where
     gone : (k : ℕ) → n ≤ k → member s k ≡ false
-    gone k past = ⊎_elim (λ h. absurd (omega (arith, reaches k h))) (λ h. h) (cases_Bool (member s k))
+    gone k past = false_from_ne_true (member s k) (λ h. omega (arith, reaches k h))
 
     far : 16 ≤ n → filter (member s) (range_with_len 0 n) ≡ members s
     far h =
@@ -47,11 +47,7 @@ module _ (s cut : TrioSet) (n : ℕ) (is : (k : ℕ) → member cut k ≡ (membe
 
   pub cut_members : members cut ≡ first_members s n
   unfolding first_members
-  cut_members = sym (first_all cut n cut_reached) ∙ kept_agree (member cut) (member s) 0 n (λ k _ h. is k ∙ ap (λ b. member s k && b) (lt-ltb k n (omega (arith, h))) ∙ and_true (member s k))
-    where
-      and_true : (b : Bool) → (b && true) ≡ b
-      and_true true = refl
-      and_true false = refl
+  cut_members = sym (first_all cut n cut_reached) ∙ kept_agree (member cut) (member s) 0 n (λ k _ h. is k ∙ ap (λ b. member s k && b) (lt-ltb k n (omega (arith, h))) ∙ and-true (member s k))
 
 module _ (k : Kind) {W : Type 0} (value : W → k.Value) (vs ms : List (Weights W)) (ls : Links) (voters modules : TrioSet) where
   abbrev pub group_from : TrioSet → ℕ → k.Value

@@ -2,9 +2,6 @@
 use Rattle.weighing.proofs.Weighed.{all_cells_done, cell_on}
 use Rattle.weighing.proofs.cells.weigh_cells.Goals as goal
 
-pub loop-cell-init : goal.loop-cell-init
-loop-cell-init g c = c.unit-product.ensures
-
 pub loop-cell-preserved : goal.loop-cell-preserved
 loop-cell-preserved g c =
     let w = g.W.Weight in

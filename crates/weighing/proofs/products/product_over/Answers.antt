@@ -8,9 +8,6 @@ use Rattle.weighing.proofs.Gathered.{product_below, product_with, product_withou
 use Rattle.weighing.proofs.products.product_over.Goals as goal
 use Rattle.weighing.proofs.products.product_over.Goals.{then-contains, else-contains}
 
-pub loop-i-init : goal.loop-i-init
-loop-i-init g c f by = c.unit-product.ensures
-
 pub loop-i-preserved : goal.loop-i-preserved
 loop-i-preserved g c f by =
     let k = g.P.Weight.kind in

@@ -1,5 +1,5 @@
 -- Each combination adds its weight, and in it each group is found at its first voter.
-use Rattle.std.proofs.Common.{◌≡◌, ◌+◌, ◌-◌, rules, of_calls, length, sym, ap, ◌∙◌, arith}
+use Rattle.std.proofs.Common.{◌+◌, ◌-◌, rules, of_calls, length, sym, ap, ◌∙◌, arith}
 use Rattle.std.proofs.lemmas.Bool.{and_from, and_parts, lt-ltb}
 use Rattle.method.specs.Method.{cell_weight, group_weight, merged, module_weights, voter_weights}
 use Rattle.network.specs.Patterns.{whole}
@@ -8,18 +8,15 @@ use Rattle.network.proofs.Chains.{joined_itself}
 use Rattle.sets.specs.Sets.{member}
 use Rattle.sets.proofs.Members.{first_least, first_none, len_bound}
 use Rattle.wiring.specs.Wires.{edge_list, link_list}
-use Rattle.weighing.specs.Entries.{read, read_all}
+use Rattle.weighing.specs.Entries.{read_all}
 use Rattle.weighing.proofs.Chosen.{chosen_inside}
-use Rattle.weighing.proofs.Gathered.{read_at}
+use Rattle.weighing.proofs.Gathered.{by_place}
 use Rattle.weighing.proofs.Grouped.{fewer, found_inside, found_voters, group_is, left_head, left_late, ungrouped_less, ungrouped_start}
 use Rattle.weighing.proofs.Weighed.{all_combinations, combination_count, combination_is, combination_on, cut_members, cut_reached, first_all, group_on, groups_past}
 use Rattle.weighing.proofs.cells.Weighing.cell.Goals as goal
 
 pub overflow_shl-j-end : goal.overflow_shl-j-end
 overflow_shl-j-end g c = omega (arith, c.len-j-end.ensures, len_bound c.below-voters.result)
-
-pub loop-j-init : goal.loop-j-init
-loop-j-init g c = c.nothing-total.ensures
 
 pub loop-v-init : goal.loop-v-init
 loop-v-init g c = (0, omega arith, ungrouped_start c.args.self.now.links.now c.combination_of-chosen.result, c.unit-groups.ensures)
@@ -86,9 +83,9 @@ loop-j-preserved g c =
     (combination_is w.kind w.value vs ms ls voters modules chosen c.difference.result c.fed_by.result c.difference-in-loop-j.result c.difference.ensures c.fed_by.ensures c.difference-in-loop-j.ensures
     (cut_reached c.args.cell.now.voters voters (length vs) c.below-voters.ensures) (cut_reached c.args.cell.now.modules modules (length ms) c.below-modules.ensures)
     _ _ _
-    (c.product_over-whole.ensures (λ v. voter_weights w.kind (read_all w.value vs) v whole) (λ i x r is gives. let e : w.value r ≡ w.value x.whole = search (rules, of_calls) in e ∙ (λ t. read_at w.kind w.value vs i x is t whole)))
+    (c.product_over-whole.ensures (λ v. voter_weights w.kind (read_all w.value vs) v whole) (by_place w.kind w.value vs _ w.value (λ u. u whole) (λ x r gives. search (rules, of_calls))))
     groups.1
-    (c.product_over-unfed.ensures (λ m. module_weights w.kind (read_all w.value ms) m whole) (λ i x r is gives. let e : w.value r ≡ merged w.kind (read w.value x) whole = search (rules, of_calls) in e ∙ (λ t. merged w.kind (read_at w.kind w.value ms i x is t) whole))))
+    (c.product_over-unfed.ensures (λ m. module_weights w.kind (read_all w.value ms) m whole) (by_place w.kind w.value ms _ w.value (λ u. merged w.kind u whole) (λ x r gives. search (rules, of_calls)))))
     c.loop-j.invariant
     (c.plus-total.ensures ∙ ap (w.kind.plus (w.value c.loop-j.total)) (c.times-in-loop-j.ensures ∙ ap (λ x. w.kind.times x (w.value c.product_over-unfed.result)) c.times.ensures))
 
