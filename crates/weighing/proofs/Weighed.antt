@@ -21,12 +21,16 @@ use Rattle.sets.proofs.Members.{len_bound, member_past, members_below}
 use Rattle.wiring.specs.Wires.{fed_by_some, link_list}
 use Rattle.wiring.specs.declared.cell.Cell.{Cell}
 use Rattle.wiring.specs.declared.links.Links.{Links}
-use Rattle.weighing.specs.Entries.{Reaches, first_members, read_all, shown_below}
+use Rattle.weighing.specs.Entries.{first_members, read_all, shown_below}
 use Rattle.weighing.specs.declared.weights.Weights.{Weights}
 use Rattle.weighing.proofs.Gathered.{product_below, product_with, product_without}
 use Rattle.weighing.proofs.Grouped.{Ungrouped, head, heads_are, left_head, members_left, members_unfed, ungrouped_same}
 
--- enough entries reach all members
+-- n entries reach all of a set
+abbrev pub Reaches : ℕ → TrioSet → Type 0
+Reaches n s = (i : ℕ) → member s i ≡ true → i < n
+
+-- where they do, the members below n are all
 pub first_all : (s : TrioSet) (n : ℕ) → Reaches n s → first_members s n ≡ members s
 unfolding first_members members
 first_all s n reaches = ⊎_elim (λ h. sym (members_below s n (omega (arith, h)) gone)) far (cases_lt n 16)

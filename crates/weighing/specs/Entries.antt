@@ -1,5 +1,5 @@
--- The weights that entries stand for, and what they add to a combination.
-use Rattle.std.specs.Prelude.{◌≡◌, ℕ, ◌<◌, true, List, map, filter, Some, slice_get}
+-- The weights that entries stand for, weights position by position, and the trios that have an entry.
+use Rattle.std.specs.Prelude.{◌≡◌, ℕ, List, map, filter, Some, slice_get}
 use Rattle.std.specs.List.{range_with_len}
 use Rattle.algebra.specs.Laws.{Kind}
 use Rattle.network.specs.Cells.{Members}
@@ -46,7 +46,3 @@ first_members s n = filter (member s) (range_with_len 0 n)
 -- a cell without the voter trios from v on and the module trios from m on
 abbrev pub shown_below : ℕ → ℕ → Cell → Members
 shown_below v m c = (first_members c.voters v, first_members c.modules m)
-
--- n entries reach all of a set
-abbrev pub Reaches : ℕ → TrioSet → Type 0
-Reaches n s = (i : ℕ) → member s i ≡ true → i < n
