@@ -7,7 +7,7 @@ use Rattle.network.specs.declared.Trio.TheVariants.{Voter}
 use Rattle.network.proofs.Chains.{joined_itself}
 use Rattle.sets.specs.Sets.{member}
 use Rattle.sets.proofs.Members.{first_least, first_none, len_bound}
-use Rattle.wiring.specs.Wires.{edge_list, link_list}
+use Rattle.wiring.specs.Wires.{link_list}
 use Rattle.weighing.specs.Entries.{read_all}
 use Rattle.weighing.proofs.Chosen.{chosen_inside}
 use Rattle.weighing.proofs.Gathered.{by_place}
@@ -26,7 +26,7 @@ loop-v-smaller g c =
     let v = c.in-Some.v in
     let least = first_least c.loop-v.ungrouped v (sym c.in-Some.ensures) in
     fewer c.loop-v.ungrouped c.cell_around-group.result.voters c.difference-ungrouped.result v least.0
-    (c.cell_around-group.ensures (Voter v) ∙ and_from _ _ (lt-ltb v 16 least.1) (joined_itself (edge_list c.only_from-own.result) (Voter v)))
+    (c.cell_around-group.ensures (Voter v) ∙ and_from _ _ (lt-ltb v 16 least.1) (joined_itself _ (Voter v)))
     c.difference-ungrouped.ensures
 
 pub loop-v-preserved : goal.loop-v-preserved
