@@ -1,16 +1,15 @@
 -- Products over growing sets of numbers, one step at a time.
-use Rattle.std.proofs.Common.{◌≡◌, ℕ, ◌+◌, ◌<◌, Bool, true, false, cond, List, [], ◌∷◌, ◌++◌, length, get_or, filter, sym, ap, ◌∙◌, arith}
+use Rattle.std.proofs.Common.{◌≡◌, ℕ, ◌+◌, Bool, true, false, cond, List, [], ◌∷◌, ◌++◌, Some, slice_get, filter, sym, refl, ap, ◌∙◌, arith}
 use Rattle.std.specs.List.{range_with_len}
 use Rattle.std.proofs.lemmas.List.{get_or-map}
+use Rattle.std.proofs.lemmas.Option.{get_or_from_slice_get, slice_get_within}
 use Rattle.algebra.specs.Laws.{Kind}
-use Rattle.algebra.specs.Sums.{product}
+use Rattle.algebra.specs.Sums.{product, product_on}
 use Rattle.algebra.proofs.Steps.{product_append}
-use Rattle.network.specs.Patterns.{State}
+use Rattle.method.specs.Method.{entry}
+use Rattle.network.specs.Patterns.{Position, State}
 use Rattle.network.proofs.Lists.{kept_counting_more}
-use Rattle.sets.specs.Sets.{member}
-use Rattle.sets.specs.declared.TrioSet.{TrioSet}
-use Rattle.weighing.specs.Entries.{first_members, read, share, share_at}
-use Rattle.weighing.specs.declared.weights.Role.{Role}
+use Rattle.weighing.specs.Entries.{ReturnsByPlace, each_position, read, read_all}
 use Rattle.weighing.specs.declared.weights.Weights.{Weights}
 
 -- the numbers below n + 1 that pass
@@ -30,22 +29,22 @@ module _ (k : Kind) (f : ℕ → k.Value) where
   product_without test n h =
       ap (product k f) (kept_next test n ∙ ap (λ b. filter test (range_with_len 0 n) ++ cond b (n ∷ []) []) h) ∙ product_append k f k.unit (filter test (range_with_len 0 n)) []
 
--- what the entries of a set add in a state
-module _ (k : Kind) {W : Type 0} (value : W → k.Value) (role : Role) (ws : List (Weights W)) (set : TrioSet) (s : State) where
-  abbrev pub product_so_far : ℕ → k.Value
-  product_so_far n = product_below k (λ i. share_at k value role ws i s) (member set) n
+-- position by position a product is the products at the positions
+module _ (k : Kind) (f : ℕ → Position → k.Value) (p : Position) where
+  product_on_at : (acc : Position → k.Value) (xs : List ℕ) → product_on (each_position k) f acc xs p ≡ product_on k (λ i. f i p) (acc p) xs
+  product_on_at acc [] = refl
+  product_on_at acc (x ∷ xs) = product_on_at (λ q. k.times (acc q) (f x q)) xs
 
-  entry_at : (i : ℕ) (w : Weights W) → i < length ws → w ≡ get_or ws i w → share k role (read value w) s ≡ share_at k value role ws i s
-  entry_at i w within is =
-      ap (λ (x : Weights W). share k role (read value x) s) is ∙ ap (λ (r : State → k.Value). share k role r s) (sym (get_or-map (read value) ws i w (λ _. k.unit) within))
+  pub product_at : (xs : List ℕ) (x : Position → k.Value) → x ≡ product (each_position k) f xs → x p ≡ product k (λ i. f i p) xs
+  product_at xs x e = (λ j. e j p) ∙ product_on_at (λ q. k.unit) xs
 
-  pub product_taken : (i : ℕ) (w : Weights W) (x y : k.Value) → i < length ws → w ≡ get_or ws i w → member set i ≡ true → x ≡ product_so_far i → y ≡ k.times x (share k role (read value w) s) → y ≡ product_so_far (i + 1)
-  product_taken i w x y within is there before now =
-      now ∙ (λ j. k.times (before j) (entry_at i w within is j)) ∙ sym (product_with k (λ i. share_at k value role ws i s) (member set) i there)
+module _ (k : Kind) {W : Type 0} (value : W → k.Value) (ws : List (Weights W)) where
+  -- an entry as what it is read as at its place
+  read_at : (i : ℕ) (w : Weights W) → slice_get ws i ≡ Some w → read value w ≡ entry k (read_all value ws) i
+  read_at i w is =
+      sym (ap (read value) (get_or_from_slice_get ws i w w is)) ∙ sym (get_or-map (read value) ws i w (λ _. k.unit) (slice_get_within ws i w is))
 
-  pub product_passed : (i : ℕ) (x : k.Value) → member set i ≡ false → x ≡ product_so_far i → x ≡ product_so_far (i + 1)
-  product_passed i x gone before = before ∙ sym (product_without k (λ i. share_at k value role ws i s) (member set) i gone)
-
-  pub product_done : (i n : ℕ) (x : k.Value) → i ≡ n → x ≡ product_so_far i → x ≡ product k (λ i. share_at k value role ws i s) (first_members set n)
-  unfolding first_members
-  product_done i n x all before = before ∙ ap product_so_far all
+  -- what is returned at an entry is a share of its weights
+  pub by_place : {R V : Type 0} (returns : Weights W → R → Type 0) (stands_for : R → V) (share : (State → k.Value) → V) → ((w : Weights W) (r : R) → returns w r → stands_for r ≡ share (read value w))
+      → ReturnsByPlace returns stands_for ws (λ i. share (entry k (read_all value ws) i))
+  by_place returns stands_for share says i w r is gives = says w r gives ∙ ap share (read_at i w is)

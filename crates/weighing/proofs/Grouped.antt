@@ -1,7 +1,8 @@
 -- The groups of a combination, found one after the other.
-use Rattle.std.proofs.Common.{◌≡◌, ℕ, ◌+◌, ◌<◌, Bool, true, false, not, ◌&&◌, eqb, ltb, List, map, filter, sym, refl, ap, ◌∙◌, subst, ⊎_elim, arith}
+use Rattle.std.proofs.Common.{◌≡◌, ℕ, ◌+◌, ◌<◌, ◌≤◌, Bool, true, false, not, ◌&&◌, eqb, ltb, List, length, map, filter, sym, refl, ap, ◌∙◌, subst, ⊎_elim, arith}
 use Rattle.std.specs.List.{range_with_len}
-use Rattle.std.proofs.lemmas.Bool.{and_from, and_parts, and_right, both_ways, cases_Bool, cases_eq, eq-eqb, eqb-true, lt-ltb, ltb-true, not-true}
+use Rattle.std.proofs.Math.Bool.{and-true}
+use Rattle.std.proofs.lemmas.Bool.{and_from, and_parts, and_right, both_ways, cases_eq, cases_lt, eq-eqb, eqb-true, false_from_ne_true, lt-ltb, ltb-true, not-true, true_from_ne_false}
 use Rattle.method.specs.Groups.{among, group, heads, left_out, links_of, tied, unfed}
 use Rattle.method.proofs.Lists.{kept_twice, same_test}
 use Rattle.network.specs.Cells.{Members, edge}
@@ -9,13 +10,13 @@ use Rattle.network.specs.Chains.{Chain, none, more, ends_at, joined}
 use Rattle.network.specs.Networks.{Link, stands}
 use Rattle.network.specs.declared.Trio.{Trio}
 use Rattle.network.specs.declared.Trio.TheVariants.{Voter, Module}
-use Rattle.network.proofs.Chains.{chain_from_joined, joined_on}
+use Rattle.network.proofs.Chains.{chain_from_joined, joined_itself, joined_on}
 use Rattle.network.proofs.Inside.{step_link}
 use Rattle.sets.specs.Lists.{any}
 use Rattle.sets.specs.Sets.{member, members}
 use Rattle.sets.specs.declared.TrioSet.{TrioSet}
 use Rattle.sets.proofs.Kept.{any_below_from, any_below_true, any_kept, kept_same}
-use Rattle.sets.proofs.Members.{member_below}
+use Rattle.sets.proofs.Members.{full_subset, member_below}
 use Rattle.wiring.specs.CellSets.{holds, in_range}
 use Rattle.wiring.specs.Wires.{edge_list, fed_by_some, feeds, link_list}
 use Rattle.wiring.specs.declared.cell.Cell.{Cell}
@@ -104,17 +105,21 @@ module _ (ls : Links) (chosen : TrioSet) where
 
   pub ungrouped_start : Ungrouped chosen 0
   unfolding TiedBelow
-  ungrouped_start k =
-      ⊎_elim (λ h. let t = tied_below 0 k h in absurd (omega (arith, t.2))) (λ h. sym (ap (λ b. member chosen k && not b) h ∙ and_true (member chosen k))) (cases_Bool (earlier_tied 0 k))
-    where
-      and_true : (b : Bool) → (b && not false) ≡ b
-      and_true true = refl
-      and_true false = refl
+  ungrouped_start k = sym (ap (λ b. member chosen k && not b) (false_from_ne_true (earlier_tied 0 k) (λ h. let t = tied_below 0 k h in omega (arith, t.2))) ∙ and-true (member chosen k))
 
   module _ (v : ℕ) (left : TrioSet) (so_far : Ungrouped left v) where
     -- v is left exactly where it is the first of a group
     pub left_head : member left v ≡ head v
     left_head = so_far v
+
+    -- no voter below v is left
+    pub left_late : (k : ℕ) → member left k ≡ true → v ≤ k
+    unfolding TiedBelow
+    left_late k there = ⊎_elim
+        (λ early. let both = and_parts (member chosen k) (not (earlier_tied v k)) (sym (so_far k) ∙ there) in
+        absurd (both_ways (earlier_tied v k) (not-true (earlier_tied v k) both.1) (from_below v k (k, both.0, early, joined_itself (map edge (links_of (members chosen) (link_list ls))) (Voter k)))))
+        (λ late. late)
+        (cases_lt k v)
 
     -- v's group is found
     pub ungrouped_less : (rest group : TrioSet) → member left v ≡ true → ((k : ℕ) → member group k ≡ (ltb k 16 && joins (Voter v) (Voter k))) → ((k : ℕ) → member rest k ≡ (member left k && not (member group k))) → Ungrouped rest (v + 1)
@@ -129,27 +134,19 @@ module _ (ls : Links) (chosen : TrioSet) where
         on h =
             let both = and_parts (member chosen k && not (earlier_tied v k)) (not (ltb k 16 && joins (Voter v) (Voter k))) h in
             let first = and_parts (member chosen k) (not (earlier_tied v k)) both.0 in
-            let apart : joins (Voter v) (Voter k) ≡ false = ⊎_elim
-            (λ t. absurd (both_ways (ltb k 16 && joins (Voter v) (Voter k)) (not-true (ltb k 16 && joins (Voter v) (Voter k)) both.1) (and_from (ltb k 16) (joins (Voter v) (Voter k)) (lt-ltb k 16 (member_below chosen k first.0)) t)))
-            (λ t. t) (cases_Bool (joins (Voter v) (Voter k))) in
-            and_from (member chosen k) (not (earlier_tied (v + 1) k)) first.0 (⊎_elim
-            (λ t. let b = tied_below (v + 1) k t in absurd (⊎_elim
+            let apart = false_from_ne_true (joins (Voter v) (Voter k)) (λ t. both_ways (ltb k 16 && joins (Voter v) (Voter k)) (not-true (ltb k 16 && joins (Voter v) (Voter k)) both.1) (and_from (ltb k 16) (joins (Voter v) (Voter k)) (lt-ltb k 16 (member_below chosen k first.0)) t)) in
+            and_from (member chosen k) (not (earlier_tied (v + 1) k)) first.0 (ap not (false_from_ne_true (earlier_tied (v + 1) k) (λ t. let b = tied_below (v + 1) k t in ⊎_elim
             (λ e. both_ways (joins (Voter v) (Voter k)) apart (ap (λ x. joins (Voter x) (Voter k)) (sym e) ∙ b.3))
             (λ ne. both_ways (earlier_tied v k) (not-true (earlier_tied v k) first.1) (from_below v k (b.0, b.1, omega (arith, b.2, ne), b.3)))
-            (cases_eq b.0 v)))
-            (λ t. ap not t) (cases_Bool (earlier_tied (v + 1) k)))
+            (cases_eq b.0 v))))
 
         back : (member chosen k && not (earlier_tied (v + 1) k)) ≡ true → ((member chosen k && not (earlier_tied v k)) && not (ltb k 16 && joins (Voter v) (Voter k))) ≡ true
         back h =
             let both = and_parts (member chosen k) (not (earlier_tied (v + 1) k)) h in
             let no = not-true (earlier_tied (v + 1) k) both.1 in
             and_from (member chosen k && not (earlier_tied v k)) (not (ltb k 16 && joins (Voter v) (Voter k)))
-            (and_from (member chosen k) (not (earlier_tied v k)) both.0 (⊎_elim
-            (λ t. let b = tied_below v k t in absurd (both_ways (earlier_tied (v + 1) k) no (from_below (v + 1) k (b.0, b.1, omega (arith, b.2), b.3))))
-            (λ t. ap not t) (cases_Bool (earlier_tied v k))))
-            (⊎_elim
-            (λ t. absurd (both_ways (earlier_tied (v + 1) k) no (from_below (v + 1) k (v, v_chosen, omega arith, t))))
-            (λ t. ap not (and_right (ltb k 16) (joins (Voter v) (Voter k)) t)) (cases_Bool (joins (Voter v) (Voter k))))
+            (and_from (member chosen k) (not (earlier_tied v k)) both.0 (ap not (false_from_ne_true (earlier_tied v k) (λ t. let b = tied_below v k t in both_ways (earlier_tied (v + 1) k) no (from_below (v + 1) k (b.0, b.1, omega (arith, b.2), b.3))))))
+            (ap not (and_right (ltb k 16) (joins (Voter v) (Voter k)) (false_from_ne_true (joins (Voter v) (Voter k)) (λ t. both_ways (earlier_tied (v + 1) k) no (from_below (v + 1) k (v, v_chosen, omega arith, t))))))
 
     -- v is not in the combination, or in a group found already
     pub ungrouped_same : member left v ≡ false → Ungrouped left (v + 1)
@@ -161,7 +158,7 @@ module _ (ls : Links) (chosen : TrioSet) where
 
         through : member chosen v ≡ true → joins (Voter v) (Voter k) ≡ true → earlier_tied v k ≡ true
         through there h =
-            let tied_already : earlier_tied v v ≡ true = ⊎_elim (λ t. t) (λ f. absurd (both_ways (head v) (sym (so_far v) ∙ gone) (and_from (member chosen v) (not (earlier_tied v v)) there (ap not f)))) (cases_Bool (earlier_tied v v)) in
+            let tied_already = true_from_ne_false (earlier_tied v v) (λ f. both_ways (head v) (sym (so_far v) ∙ gone) (and_from (member chosen v) (not (earlier_tied v v)) there (ap not f))) in
             let b = tied_below v v tied_already in
             from_below v k (b.0, b.1, b.2, joined_on (map edge (links_of (members chosen) (link_list ls))) (Voter b.0) (Voter v) (Voter k) b.3 h)
 
@@ -220,3 +217,13 @@ module _ (ls : Links) (chosen : TrioSet) where
     where
       same : (m : ℕ) → any (λ v. member chosen v && feeds ls v m) (range_with_len 0 16) ≡ any (λ v. stands (link_list ls) (v, m)) (members chosen)
       same m = (λ i. any (λ v. member chosen v && sym (stands_list ls (v, m)) i) (range_with_len 0 16)) ∙ sym (any_kept (λ v. stands (link_list ls) (v, m)) (member chosen) (range_with_len 0 16))
+
+-- what is left of a set without a group that has one of its members is smaller
+pub fewer : (left group rest : TrioSet) (v : ℕ) → member left v ≡ true → member group v ≡ true → ((k : ℕ) → member rest k ≡ (member left k && not (member group k))) → length (members rest) < length (members left)
+fewer left group rest v there found less = ⊎_elim
+    (λ h. h)
+    (λ full. absurd (both_ways (member rest v) (less v ∙ (λ i. there i && not (found i))) (full_subset rest left sub full v there)))
+    (cases_lt (length (members rest)) (length (members left)))
+  where
+    sub : (k : ℕ) → member rest k ≡ true → member left k ≡ true
+    sub k h = (and_parts (member left k) (not (member group k)) (sym (less k) ∙ h)).0

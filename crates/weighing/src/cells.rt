@@ -4,13 +4,11 @@ ghost use Rattle.algebra.specs.Sums.{product};
 ghost use Rattle.method.specs.Groups.{combination};
 ghost use Rattle.method.specs.Method.{cell_weight, group_weight, module_weights, voter_weights};
 ghost use Rattle.sets.specs.Sets.{members};
-ghost use Rattle.wiring.specs.CellSets.{shown};
 ghost use Rattle.wiring.specs.Wires.{link_list};
-ghost use Rattle.weighing.specs.Entries.{Reaches, first_members, read_all, share_at, shown_below};
-ghost use Rattle.weighing.specs.declared.weights.Role.TheVariants.{Source, Place};
+ghost use Rattle.weighing.specs.Entries.{first_members, read_all, shown_below};
 
-use crate::products::{product_apart, product_grouped};
-use crate::weights::{Role, Weights};
+use crate::products::product_over;
+use crate::weights::Weights;
 use algebra::Weight;
 use network::Trio;
 use sets::TrioSet;
@@ -26,67 +24,65 @@ pub fn weigh_cells<W: Weight>(
 ) -> W
     ensures { W.Weight.value result ≡ product W.Weight.kind (cell_weight W.Weight.kind (voter_weights W.Weight.kind (read_all W.Weight.value voters.now)) (module_weights W.Weight.kind (read_all W.Weight.value modules.now)) (link_list links.now)) (map (shown_below (length voters.now) (length modules.now)) cells.now) }
 {
+    let weighing = Weighing {
+        links,
+        voters,
+        modules,
+    };
     let mut product = W::unit();
     for cell in cells {
-        let reached = Cell {
-            voters: cell.voters.below(voters.len()),
-            modules: cell.modules.below(modules.len()),
-        };
-        product = product.times(&weigh_cell(links, reached, voters, modules));
+        product = product.times(&weighing.cell(cell));
     }
     product
 }
 
-// The weight of all tolerated patterns of a cell: one step for each combination of its voter trios. In a combination
-// the trios fall into groups that share modules, and each group is faulty at one position.
-fn weigh_cell<W: Weight>(
-    links: &Links,
-    cell: Cell,
-    voters: &[Weights<W>],
-    modules: &[Weights<W>],
-) -> W
-    requires voters { Reaches (length voters.now) cell.voters }
-    requires modules { Reaches (length modules.now) cell.modules }
-    ensures { W.Weight.value result ≡ cell_weight W.Weight.kind (share_at W.Weight.kind W.Weight.value Source voters.now) (share_at W.Weight.kind W.Weight.value Place modules.now) (link_list links.now) (shown cell) }
-{
-    let mut total = W::nothing();
-    for j in 0..1 << cell.voters.len() {
-        let chosen = combination_of(cell.voters, j);
-        let own = links.only_from(chosen);
-        let mut ungrouped = chosen;
-        let mut groups = W::unit();
-        for v in 0..16 {
-            if ungrouped.contains(v) {
-                let group = own.cell_around(Trio::Voter(v));
-                let fed = group.modules.intersection(cell.modules);
-                groups = groups.times(&weigh_group(voters, modules, group.voters, fed));
-                ungrouped = ungrouped.difference(group.voters);
-            }
-        }
-        let whole = product_apart(voters, Role::Source, cell.voters.difference(chosen));
-        let unfed = product_apart(
-            modules,
-            Role::Place,
-            cell.modules.difference(links.fed_by(chosen)),
-        );
-        total = total.plus(&whole.times(&groups).times(&unfed));
-    }
-    total
+// What cells are weighed by: the links, and the weights of the voter trios and of the module trios by number.
+#[derive(Clone, Copy)]
+struct Weighing<'a, W> {
+    links: &'a Links,
+    voters: &'a [Weights<W>],
+    modules: &'a [Weights<W>],
 }
 
-// The weight of a group: its voters are faulty at one position, and the modules that it feeds may be at the same.
-fn weigh_group<W: Weight>(
-    voters: &[Weights<W>],
-    modules: &[Weights<W>],
-    group: TrioSet,
-    fed: TrioSet,
-) -> W
-    ensures { W.Weight.value result ≡ group_weight W.Weight.kind (share_at W.Weight.kind W.Weight.value Source voters.now) (share_at W.Weight.kind W.Weight.value Place modules.now) (first_members group (length voters.now), first_members fed (length modules.now)) }
-{
-    let faults = product_grouped(voters, Role::Source, group);
-    faults
-        .times(&product_grouped(modules, Role::Place, fed))
-        .sum()
+impl<W: Weight> Weighing<'_, W> {
+    // The weight of all tolerated patterns of a cell: one step for each combination of its voter trios. In a
+    // combination the trios fall into groups that share modules, and each group is faulty at one position.
+    fn cell(&self, cell: &Cell) -> W
+        ensures { W.Weight.value result ≡ cell_weight W.Weight.kind (voter_weights W.Weight.kind (read_all W.Weight.value self.now.voters.now)) (module_weights W.Weight.kind (read_all W.Weight.value self.now.modules.now)) (link_list self.now.links.now) (shown_below (length self.now.voters.now) (length self.now.modules.now) cell.now) }
+    {
+        let voters = cell.voters.below(self.voters.len());
+        let modules = cell.modules.below(self.modules.len());
+        let mut total = W::nothing();
+        for j in 0..1 << voters.len() {
+            let chosen = combination_of(voters, j);
+            let own = self.links.only_from(chosen);
+            let mut ungrouped = chosen;
+            let mut groups = W::unit();
+            while let Some(v) = ungrouped.first() {
+                let group = own.cell_around(Trio::Voter(v));
+                let fed = group.modules.intersection(modules);
+                groups = groups.times(&self.group(group.voters, fed));
+                ungrouped = ungrouped.difference(group.voters);
+            }
+            let whole = product_over(self.voters, voters.difference(chosen), |w| w.whole);
+            let unfed = product_over(
+                self.modules,
+                modules.difference(self.links.fed_by(chosen)),
+                |w| w.in_any_state(),
+            );
+            total = total.plus(&whole.times(&groups).times(&unfed));
+        }
+        total
+    }
+
+    // The weight of a group: its voters are faulty at one position, and the modules that it feeds may be at the same.
+    fn group(&self, voters: TrioSet, fed: TrioSet) -> W
+        ensures { W.Weight.value result ≡ group_weight W.Weight.kind (voter_weights W.Weight.kind (read_all W.Weight.value self.now.voters.now)) (module_weights W.Weight.kind (read_all W.Weight.value self.now.modules.now)) (first_members voters (length self.now.voters.now), first_members fed (length self.now.modules.now)) }
+    {
+        let faults = product_over(self.voters, voters, |w| w.faulty);
+        let places = product_over(self.modules, fed, |w| w.whole_or_faulty());
+        faults.times(&places).sum()
+    }
 }
 
 // Combination `j` of some voters: the i-th of them where binary digit i of `j` is 1.
@@ -95,13 +91,11 @@ pub fn combination_of(voters: TrioSet, j: usize) -> TrioSet
 {
     let mut chosen = TrioSet::empty();
     let mut digits = j;
-    for v in 0..16 {
-        if voters.contains(v) {
-            if digits % 2 == 1 {
-                chosen = chosen.with(v);
-            }
-            digits /= 2;
+    for v in voters {
+        if digits % 2 == 1 {
+            chosen = chosen.with(v);
         }
+        digits /= 2;
     }
     chosen
 }

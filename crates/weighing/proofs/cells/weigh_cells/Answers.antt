@@ -1,20 +1,12 @@
 -- Each cell multiplies its weight on.
-use Rattle.std.proofs.Common.{length}
-use Rattle.weighing.proofs.Weighed.{all_cells_done, cell_on, cut_reached}
+use Rattle.weighing.proofs.Weighed.{all_cells_done, cell_on}
 use Rattle.weighing.proofs.cells.weigh_cells.Goals as goal
-
-pub loop-cell-init : goal.loop-cell-init
-loop-cell-init g c = c.unit-product.ensures
-
-pub weigh_cell-requires : goal.weigh_cell-requires
-weigh_cell-requires g c =
-    record { voters = cut_reached _ c.below.result (length c.args.voters.now) c.below.ensures; modules = cut_reached _ c.below-in-loop-cell.result (length c.args.modules.now) c.below-in-loop-cell.ensures }
 
 pub loop-cell-preserved : goal.loop-cell-preserved
 loop-cell-preserved g c =
     let w = g.W.Weight in
-    cell_on w.kind w.value c.args.voters.now c.args.modules.now c.args.links.now c.args.cells.now c.loop-cell.cell-index _ _ _ _ _ c.loop-cell-test.true
-    c.below.ensures c.below-in-loop-cell.ensures c.weigh_cell.ensures c.loop-cell.invariant c.times-product.ensures
+    cell_on w.kind w.value c.args.voters.now c.args.modules.now c.args.links.now c.args.cells.now c.loop-cell.cell-index _ _ _ _ c.loop-cell-test.true
+    c.cell.ensures c.loop-cell.invariant c.times-product.ensures
 
 pub returns : goal.returns
 returns g c =
