@@ -2,7 +2,7 @@
 use Rattle.std.proofs.Common.{◌≡◌, ℕ, ◌≤◌, Bool, true, false, cond, eqb, leb, ◌⊎◌, List, [], ◌∷◌, length, Some, None, Option, sym, refl, ap, subst, inl, inr, arith}
 use Rattle.std.proofs.lemmas.Bool.{cases_lt}
 use Rattle.text.specs.Fields.{field}
-use Rattle.console.specs.Requests.{largest_code, largest_number, longest_line, one_number, two_numbers, given_nothing, given_number, given_pair, named_call, request}
+use Rattle.console.specs.Requests.{ends, largest_code, largest_number, longest_line, one_number, two_numbers, given_nothing, given_number, given_pair, named_call, request}
 use Rattle.console.specs.declared.line.Request.{Request}
 use Rattle.console.specs.declared.line.Request.TheVariants.{AddVoter, AddModule, Link, Cut, CountPatterns, LongestRepair}
 use Rattle.console.proofs.Calls.{request_none, request_long}
@@ -53,8 +53,8 @@ two_numbers_most most text p answer = elim (cases_option (field text)) [
 abbrev pub Within : Request → Type 0
 Within (AddVoter code) = code ≤ largest_code
 Within (AddModule code) = code ≤ largest_code
-Within (Link voter unit) = (voter ≤ largest_number) × (unit ≤ largest_number)
-Within (Cut voter unit) = (voter ≤ largest_number) × (unit ≤ largest_number)
+Within (Link l) = (l.voter ≤ largest_number) × (l.«module» ≤ largest_number)
+Within (Cut l) = (l.voter ≤ largest_number) × (l.«module» ≤ largest_number)
 Within CountPatterns = Unit {0}
 Within (LongestRepair hours) = hours ≤ largest_number
 
@@ -80,8 +80,8 @@ module _ (call : Request) where
   named_call_within letter rest =
       either_within (eqb letter 86) _ _ (number_within AddVoter _ (one_number_most largest_code rest))
       (either_within (eqb letter 77) _ _ (number_within AddModule _ (one_number_most largest_code rest))
-      (either_within (eqb letter 76) _ _ (pair_within Link _ (two_numbers_most largest_number rest))
-      (either_within (eqb letter 88) _ _ (pair_within Cut _ (two_numbers_most largest_number rest))
+      (either_within (eqb letter 76) _ _ (pair_within (λ v m. Link (ends (v, m))) _ (two_numbers_most largest_number rest))
+      (either_within (eqb letter 88) _ _ (pair_within (λ v m. Cut (ends (v, m))) _ (two_numbers_most largest_number rest))
       (either_within (eqb letter 67) _ _ (nothing_within CountPatterns rest tt)
       (either_within (eqb letter 72) _ _ (number_within LongestRepair _ (one_number_most largest_number rest)) (λ none. absurd (never _ none refl)))))))
 

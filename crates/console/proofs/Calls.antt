@@ -1,8 +1,11 @@
 -- The call that each letter names, and the call of a line by its length and its first byte.
-use Rattle.std.proofs.Common.{◌≡◌, ℕ, ◌-◌, ◌<◌, ◌≤◌, List, [], ◌∷◌, length, get_or, take, drop, Some, None, sym, refl, ap, ◌∙◌, arith}
+use Rattle.std.proofs.Common.{◌≡◌, ℕ, ◌-◌, ◌<◌, ◌≤◌, List, [], ◌∷◌, length, get_or, take, drop, Some, None, Option, sym, refl, ap, ◌∙◌, arith}
+use Rattle.std.specs.Option.{option_map}
 use Rattle.std.proofs.lemmas.List.{take_rest}
 use Rattle.std.proofs.lemmas.Bool.{le-leb, lt-leb, ne_eqb, cond-true, cond-false}
-use Rattle.console.specs.Requests.{largest_code, largest_number, one_number, two_numbers, given_number, given_pair, named_call, request}
+use Rattle.console.specs.Requests.{ends, largest_code, largest_number, one_number, two_numbers, given_number, given_pair, named_call, request}
+use Rattle.console.specs.declared.line.Request.{Request}
+use Rattle.network.specs.declared.Link.{Link as Ends}
 use Rattle.console.specs.declared.line.Request.TheVariants.{AddVoter, AddModule, Link, Cut, CountPatterns, LongestRepair}
 
 -- the numbers that a letter takes, up to the largest that the code allows
@@ -15,17 +18,23 @@ module _ (letter : ℕ) (rest : List ℕ) (most : ℕ) where
   unfolding named_call
   names_m this limit = rw (this, limit) refl
 
-  pub names_l : letter ≡ 76 → most ≡ largest_number → named_call letter rest ≡ given_pair Link (two_numbers most rest)
-  unfolding named_call
-  names_l this limit = rw (this, limit) refl
-
-  pub names_x : letter ≡ 88 → most ≡ largest_number → named_call letter rest ≡ given_pair Cut (two_numbers most rest)
-  unfolding named_call
-  names_x this limit = rw (this, limit) refl
-
   pub names_h : letter ≡ 72 → most ≡ largest_number → named_call letter rest ≡ given_number LongestRepair (one_number most rest)
   unfolding named_call
   names_h this limit = rw (this, limit) refl
+
+-- L and X take a link
+module _ (letter : ℕ) (rest : List ℕ) where
+  by_ends : (make : Ends → Request) (o : Option (ℕ × ℕ)) → given_pair (λ v m. make (ends (v, m))) o ≡ option_map make (option_map ends o)
+  by_ends make None = refl
+  by_ends make (Some p) = refl
+
+  pub names_l : letter ≡ 76 → named_call letter rest ≡ option_map Link (option_map ends (two_numbers largest_number rest))
+  unfolding named_call
+  names_l this = rw this (by_ends Link (two_numbers largest_number rest))
+
+  pub names_x : letter ≡ 88 → named_call letter rest ≡ option_map Cut (option_map ends (two_numbers largest_number rest))
+  unfolding named_call
+  names_x this = rw this (by_ends Cut (two_numbers largest_number rest))
 
 -- C takes no number
 module _ (letter : ℕ) where

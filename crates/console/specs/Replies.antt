@@ -28,8 +28,8 @@ on_scale letter print = letter ∷ (32 ∷ print)
 abbrev pub effect_of : Request → Effect
 effect_of (AddVoter code) = changes (add_voter code)
 effect_of (AddModule code) = changes (add_module code)
-effect_of (Link v m) = changes (link v m)
-effect_of (Cut v m) = changes (cut v m)
+effect_of (Link l) = changes (link l.voter l.«module»)
+effect_of (Cut l) = changes (cut l.voter l.«module»)
 -- C
 effect_of CountPatterns = asks (λ n. Ok (on_scale 67 (count_print (pattern_count n))))
 -- H

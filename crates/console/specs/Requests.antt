@@ -1,5 +1,6 @@
 -- Which call a line of the console makes.
 use Rattle.std.specs.Prelude.{ℕ, cond, List, [], ◌∷◌, length, Some, None, Option, ◌==◌, nat_le}
+use Rattle.network.specs.declared.Link.{Link as Ends}
 use Rattle.text.specs.Fields.{field}
 use Rattle.console.specs.declared.line.Request.{Request}
 use Rattle.console.specs.declared.line.Request.TheVariants.{AddVoter, AddModule, Link, Cut, CountPatterns, LongestRepair}
@@ -58,6 +59,10 @@ abbrev pub given_pair : (ℕ → ℕ → Request) → Option (ℕ × ℕ) → Op
 given_pair make None = None
 given_pair make (Some p) = Some (make p.0 p.1)
 
+-- the link with these ends
+abbrev pub ends : ℕ × ℕ → Ends
+ends p = record { voter = p.0; «module» = p.1 }
+
 -- the call that a letter names, with the numbers that follow it
 unfoldable pub named_call : ℕ → List ℕ → Option Request
 named_call letter rest =
@@ -66,9 +71,9 @@ named_call letter rest =
     -- M
     (cond (letter == 77) (given_number AddModule (one_number largest_code rest))
     -- L
-    (cond (letter == 76) (given_pair Link (two_numbers largest_number rest))
+    (cond (letter == 76) (given_pair (λ v m. Link (ends (v, m))) (two_numbers largest_number rest))
     -- X
-    (cond (letter == 88) (given_pair Cut (two_numbers largest_number rest))
+    (cond (letter == 88) (given_pair (λ v m. Cut (ends (v, m))) (two_numbers largest_number rest))
     -- C
     (cond (letter == 67) (given_nothing CountPatterns rest)
     -- H

@@ -68,8 +68,8 @@ impl Console {
             Request::AddModule(code) => {
                 self.cabinet.add_module(code)?;
             }
-            Request::Link(voter, module) => self.cabinet.link(voter, module)?,
-            Request::Cut(voter, module) => self.cabinet.cut(voter, module)?,
+            Request::Link(link) => self.cabinet.link(link)?,
+            Request::Cut(link) => self.cabinet.cut(link)?,
             Request::CountPatterns => return Ok(Outcome::Counted(self.pattern_count()?)),
             Request::LongestRepair(hours) => return Ok(Outcome::Lasting(self.longest_repair(
                 hours,

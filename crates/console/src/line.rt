@@ -1,20 +1,22 @@
 // Lines that a fitter keys, and the calls that they make.
 ghost use Rattle.std.specs.Prelude.{◌≡◌};
-ghost use Rattle.console.specs.Requests.{named_call, one_number, request, two_numbers};
+ghost use Rattle.std.specs.Option.{option_map};
+ghost use Rattle.console.specs.Requests.{ends, largest_number, named_call, one_number, request, two_numbers};
 
+use network::Link;
 use text::read_field;
 
 // A call on the cabinet, as a line makes it.
-#[derive(Clone, Copy)]
+#[derive(Clone, Copy, PartialEq, Eq, Debug)]
 pub enum Request {
     // a voter trio with this part code
     AddVoter(u16),
     // a module trio with this part code
     AddModule(u16),
-    // a link from a voter trio to a module trio
-    Link(usize, usize),
+    // a link
+    Link(Link),
     // that link cut
-    Cut(usize, usize),
+    Cut(Link),
     // how many fault patterns are tolerated
     CountPatterns,
     // the longest repair, at so many hours for each fault
@@ -52,6 +54,17 @@ fn two_numbers(text: &[u8], most: u64) -> Option<(u64, u64)>
     Some((first, second))
 }
 
+// The link that `text` tells by its two numbers.
+fn link(text: &[u8]) -> Option<Link>
+    ensures { result ≡ option_map ends (two_numbers largest_number text.now) }
+{
+    let (voter, module) = two_numbers(text, LARGEST_NUMBER)?;
+    Some(Link {
+        voter: voter as usize,
+        module: module as usize,
+    })
+}
+
 // The call that a letter names, with the numbers that follow it.
 fn named_call(letter: char, rest: &[u8]) -> Option<Request>
     ensures { result ≡ named_call letter rest.now }
@@ -59,14 +72,8 @@ fn named_call(letter: char, rest: &[u8]) -> Option<Request>
     match letter {
         'V' => Some(Request::AddVoter(one_number(rest, LARGEST_CODE)? as u16)),
         'M' => Some(Request::AddModule(one_number(rest, LARGEST_CODE)? as u16)),
-        'L' => {
-            let (voter, module) = two_numbers(rest, LARGEST_NUMBER)?;
-            Some(Request::Link(voter as usize, module as usize))
-        }
-        'X' => {
-            let (voter, module) = two_numbers(rest, LARGEST_NUMBER)?;
-            Some(Request::Cut(voter as usize, module as usize))
-        }
+        'L' => Some(Request::Link(link(rest)?)),
+        'X' => Some(Request::Cut(link(rest)?)),
         'C' => match rest {
             [] => Some(Request::CountPatterns),
             _ => None,

@@ -1,5 +1,5 @@
 // The lines of an input, whose bytes come in one by one.
-ghost use Rattle.std.specs.Prelude.{◌≤◌};
+use arrayvec::ArrayVec;
 
 mod split;
 
@@ -9,9 +9,7 @@ const NEWLINE: u8 = b'\n';
 const KEPT: usize = 41;
 
 // A line so far: its first bytes, since a line of the input may be of any length.
-#[derive(Clone, Copy)]
+#[derive(Drop)]
 pub struct LineBuffer {
-    bytes: [u8; KEPT],
-    len: usize,
-    ghost within: { len ≤ 41 },
+    bytes: ArrayVec<u8, KEPT>,
 }

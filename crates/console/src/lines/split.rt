@@ -5,7 +5,8 @@ ghost use Rattle.console.specs.Held.{Accepts, Ends, GoesOn, Keeps, held, left_ov
 ghost use Rattle.console.specs.Requests.{request};
 ghost use Rattle.console.specs.Splits.{Splits};
 
-use super::{KEPT, LineBuffer, NEWLINE};
+use super::{LineBuffer, NEWLINE};
+use arrayvec::ArrayVec;
 
 impl LineBuffer {
     // An empty line.
@@ -13,8 +14,7 @@ impl LineBuffer {
         ensures { Keeps [] result }
     {
         LineBuffer {
-            bytes: [0; KEPT],
-            len: 0,
+            bytes: ArrayVec::new(),
         }
     }
 
@@ -22,9 +22,8 @@ impl LineBuffer {
     fn push(&mut self, byte: u8)
         ensures { held self.new ≡ take 41 (held self.old ++ byte ∷ []) }
     {
-        if self.len < KEPT {
-            self.bytes[self.len] = byte;
-            self.len += 1;
+        if !self.bytes.is_full() {
+            self.bytes.push(byte);
         }
     }
 
@@ -34,9 +33,8 @@ impl LineBuffer {
         ensures splits { (input : List ℕ) (full : List (List ℕ)) (part : List ℕ) → Splits input full part → Keeps part self.old → GoesOn input full part byte result self.new }
     {
         if byte == NEWLINE {
-            let line = *self;
-            self.len = 0;
-            return Some(line);
+            let bytes = self.bytes.take();
+            return Some(LineBuffer { bytes });
         }
         self.push(byte);
         None
@@ -47,7 +45,11 @@ impl LineBuffer {
         ensures value { result ≡ left_over self }
         ensures ends { (part : List ℕ) → Keeps part self → Ends part result }
     {
-        if self.len == 0 { None } else { Some(self) }
+        if self.bytes.is_empty() {
+            None
+        } else {
+            Some(self)
+        }
     }
 
     // The bytes that are kept. They make the call that the whole line makes.
@@ -55,6 +57,6 @@ impl LineBuffer {
         ensures value { result.now ≡ held self.now }
         ensures same_call { (line : List ℕ) → Keeps line self.now → request result.now ≡ request line }
     {
-        &self.bytes[0..self.len]
+        self.bytes.as_slice()
     }
 }

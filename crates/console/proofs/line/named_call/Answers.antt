@@ -1,6 +1,7 @@
 -- `named_call` answers, letter by letter, what the definition has for that letter.
 use Rattle.std.proofs.Common.{sym, ap, ◌∙◌, arith, ltb-false, ltb-true}
-use Rattle.console.specs.Requests.{given_number, given_pair}
+use Rattle.std.specs.Option.{option_map}
+use Rattle.console.specs.Requests.{given_number}
 use Rattle.console.specs.declared.line.Request.TheVariants.{AddVoter, AddModule, Link, Cut, LongestRepair}
 use Rattle.console.proofs.Bounds.{one_number_most}
 use Rattle.console.proofs.Calls.{names_v, names_m, names_l, names_x, names_c, names_c_more, names_h, names_none}
@@ -30,23 +31,17 @@ overflow_cast-result-in-M c = omega (arith, one_number_most _ _ _ (sym c.in_ok-o
 pub returns-in_ok-one_number-in-M : goal.returns-in_ok-one_number-in-M
 returns-in_ok-one_number-in-M c = ap (given_number AddModule) c.in_ok-one_number-in-M.ensures ∙ sym (names_m _ _ _ (omega arith) (omega arith))
 
-pub returns-in_err-voter-in-L : goal.returns-in_err-voter-in-L
-returns-in_err-voter-in-L c =
-    c.from_residual-in_err-voter-in-L.ensures
-    ∙ ap (given_pair Link) c.in_err-voter-in-L.ensures
-    ∙ sym (names_l _ _ _ (omega arith) (omega arith))
+pub returns-in_err-link-in-L : goal.returns-in_err-link-in-L
+returns-in_err-link-in-L c = c.from_residual-in_err-link-in-L.ensures ∙ ap (option_map Link) c.in_err-link-in-L.ensures ∙ sym (names_l _ _ (omega arith))
 
-pub returns-in_ok-voter-in-L : goal.returns-in_ok-voter-in-L
-returns-in_ok-voter-in-L c = ap (given_pair Link) c.in_ok-voter-in-L.ensures ∙ sym (names_l _ _ _ (omega arith) (omega arith))
+pub returns-in_ok-link-in-L : goal.returns-in_ok-link-in-L
+returns-in_ok-link-in-L c = ap (option_map Link) c.in_ok-link-in-L.ensures ∙ sym (names_l _ _ (omega arith))
 
-pub returns-in_err-voter-in-X : goal.returns-in_err-voter-in-X
-returns-in_err-voter-in-X c =
-    c.from_residual-in_err-voter-in-X.ensures
-    ∙ ap (given_pair Cut) c.in_err-voter-in-X.ensures
-    ∙ sym (names_x _ _ _ (omega arith) (omega arith))
+pub returns-in_err-link-in-X : goal.returns-in_err-link-in-X
+returns-in_err-link-in-X c = c.from_residual-in_err-link-in-X.ensures ∙ ap (option_map Cut) c.in_err-link-in-X.ensures ∙ sym (names_x _ _ (omega arith))
 
-pub returns-in_ok-voter-in-X : goal.returns-in_ok-voter-in-X
-returns-in_ok-voter-in-X c = ap (given_pair Cut) c.in_ok-voter-in-X.ensures ∙ sym (names_x _ _ _ (omega arith) (omega arith))
+pub returns-in_ok-link-in-X : goal.returns-in_ok-link-in-X
+returns-in_ok-link-in-X c = ap (option_map Cut) c.in_ok-link-in-X.ensures ∙ sym (names_x _ _ (omega arith))
 
 pub returns-in-empty : goal.returns-in-empty
 returns-in-empty c = sym (names_c _ _ (omega arith) (omega (arith, ltb-true)))
