@@ -1,5 +1,5 @@
 // Cabinets are wired, cut and asked.
-use crate::wirings::{MESH, is_set, wired};
+use crate::wirings::{MESH, is_set, link, wired};
 use network::Trio;
 use refusals::Refusal;
 use std::test::Fail;
@@ -15,18 +15,18 @@ fn cells_join_and_part(rt: HostRuntime) -> Result<(), Fail> {
     let mut cabinet = wired(4, 3, &MESH)?;
     assert_eq!(rt; cabinet.cell_count(), 1);
     assert!(rt; is_cell(cabinet.cell(0)?, &[0, 1, 2, 3], &[0, 1, 2]));
-    cabinet.cut(1, 1)?;
+    cabinet.cut(link(1, 1))?;
     assert_eq!(rt; cabinet.cell_count(), 2);
     assert!(rt; is_cell(cabinet.cell(0)?, &[0, 1], &[0]));
     assert!(rt; is_cell(cabinet.cell(1)?, &[2, 3], &[1, 2]));
     assert_eq!(rt; cabinet.cell_of(Trio::Module(1)), Ok(1));
-    assert_eq!(rt; cabinet.is_linked(1, 1), Ok(false));
+    assert_eq!(rt; cabinet.is_linked(link(1, 1)), Ok(false));
     Ok(())
 }
 
 #[test]
 fn cells_are_numbered_by_their_first_trio(rt: HostRuntime) -> Result<(), Fail> {
-    let cabinet = wired(3, 3, &[(1, 2), (2, 2)])?;
+    let cabinet = wired(3, 3, &[link(1, 2), link(2, 2)])?;
     assert_eq!(rt; cabinet.cell_count(), 4);
     assert_eq!(rt; cabinet.cell_of(Trio::Voter(0)), Ok(0));
     assert_eq!(rt; cabinet.cell_of(Trio::Voter(2)), Ok(1));
@@ -43,19 +43,19 @@ fn a_thirteenth_voter_does_not_fit(rt: HostRuntime) -> Result<(), Fail> {
     assert_eq!(rt; cabinet.add_voter(0), Err(Refusal::VotersFull));
     assert_eq!(rt; cabinet.add_module(0), Err(Refusal::ModulesFull));
     for v in 0..12 {
-        cabinet.link(v, 0)?;
+        cabinet.link(link(v, 0))?;
     }
-    assert_eq!(rt; cabinet.link(12, 0), Err(Refusal::CellTooWide));
-    cabinet.cut(5, 0)?;
-    cabinet.link(12, 0)?;
-    assert_eq!(rt; cabinet.link(5, 0), Err(Refusal::CellTooWide));
-    assert_eq!(rt; cabinet.link(5, 1), Ok(()));
+    assert_eq!(rt; cabinet.link(link(12, 0)), Err(Refusal::CellTooWide));
+    cabinet.cut(link(5, 0))?;
+    cabinet.link(link(12, 0))?;
+    assert_eq!(rt; cabinet.link(link(5, 0)), Err(Refusal::CellTooWide));
+    assert_eq!(rt; cabinet.link(link(5, 1)), Ok(()));
     Ok(())
 }
 
 #[test]
 fn parts_are_changed_and_absent_trios_refused(rt: HostRuntime) -> Result<(), Fail> {
-    let mut cabinet = wired(2, 1, &[(1, 0)])?;
+    let mut cabinet = wired(2, 1, &[link(1, 0)])?;
     cabinet.change_part(Trio::Voter(1), 65535)?;
     cabinet.change_part(Trio::Module(0), 7)?;
     assert_eq!(rt; cabinet.code(Trio::Voter(1)), Ok(65535));
@@ -65,8 +65,8 @@ fn parts_are_changed_and_absent_trios_refused(rt: HostRuntime) -> Result<(), Fai
         cabinet.change_part(Trio::Module(1), 7),
         Err(Refusal::NoModule)
     );
-    assert_eq!(rt; cabinet.is_linked(2, 1), Err(Refusal::NoVoter));
-    assert_eq!(rt; cabinet.cut(0, 0), Err(Refusal::NoLink));
+    assert_eq!(rt; cabinet.is_linked(link(2, 1)), Err(Refusal::NoVoter));
+    assert_eq!(rt; cabinet.cut(link(0, 0)), Err(Refusal::NoLink));
     assert_eq!(rt; Refusal::NoCell.number(), 8);
     Ok(())
 }

@@ -1,6 +1,7 @@
 // The combinations of a cell with four voter trios.
 use crate::wirings::{MESH, even, is_set, wired};
 use algebra::Weight;
+use network::Link;
 use scales::Count;
 use sets::TrioSet;
 use std::test::Fail;
@@ -32,20 +33,14 @@ const ROWS: [Row; 15] = [
 // Weights under which a total counts the patterns with just these voters and no module faulty.
 fn just_faulty(voters: TrioSet) -> [Weights<Count>; 7] {
     let mut weights = [even(Count::unit(), Count::nothing()); 7];
-    for v in 0..4 {
-        if voters.contains(v) {
-            weights[v] = even(Count::nothing(), Count::unit());
-        }
+    for v in voters {
+        weights[v] = even(Count::nothing(), Count::unit());
     }
     weights
 }
 
-fn linked(pairs: &[(usize, usize)]) -> Links {
-    let mut links = Links::none();
-    for pair in pairs {
-        links = links.with(pair.0, pair.1);
-    }
-    links
+fn linked(pairs: &[Link]) -> Links {
+    pairs.iter().fold(Links::none(), |links, link| links.with(*link))
 }
 
 #[test]

@@ -1,26 +1,32 @@
 // Cabinets, sets and weights for the trials.
 use algebra::Weight;
 use cabinet::Cabinet;
+use network::Link;
 use refusals::Refusal;
 use sets::TrioSet;
 use weighing::{PerPosition, Weights};
 
+// A link between these trios.
+pub(crate) const fn link(voter: usize, module: usize) -> Link {
+    Link { voter, module }
+}
+
 // The links between four voter trios and three module trios.
-pub(crate) const MESH: [(usize, usize); 7] = [
-    (0, 0),
-    (1, 0),
-    (1, 1),
-    (2, 1),
-    (2, 2),
-    (3, 1),
-    (3, 2),
+pub(crate) const MESH: [Link; 7] = [
+    link(0, 0),
+    link(1, 0),
+    link(1, 1),
+    link(2, 1),
+    link(2, 2),
+    link(3, 1),
+    link(3, 2),
 ];
 
 // A cabinet with so many trios of each kind and these links.
 pub(crate) fn wired(
     voters: u16,
     modules: u16,
-    links: &[(usize, usize)],
+    links: &[Link],
 ) -> Result<Cabinet, Refusal> {
     let mut cabinet = Cabinet::new();
     for v in 0..voters {
@@ -30,19 +36,14 @@ pub(crate) fn wired(
         cabinet.add_module(m)?;
     }
     for link in links {
-        cabinet.link(link.0, link.1)?;
+        cabinet.link(*link)?;
     }
     Ok(cabinet)
 }
 
 // Whether the set has just these members.
 pub(crate) fn is_set(set: TrioSet, members: &[usize]) -> bool {
-    for i in members {
-        if !set.contains(*i) {
-            return false;
-        }
-    }
-    set.len() == members.len()
+    set.len() == members.len() && members.iter().all(|i| set.contains(*i))
 }
 
 // The same weight for a fault at each position.
