@@ -42,7 +42,10 @@ fn patterns_are_counted_on_two_scales(rt: HostRuntime) -> Result<(), Fail> {
 #[test]
 fn a_linked_pair_in_hours_and_in_faults(rt: HostRuntime) -> Result<(), Fail> {
     let cabinet = wired(1, 1, &[(0, 0)])?;
-    assert_eq!(rt; cabinet.total(&[repair(1, 2, 6), repair(5, 1, 1)])?, Hours(Some(7)));
+    assert_eq!(rt;
+        cabinet.total(&[repair(1, 2, 6), repair(5, 1, 1)])?,
+        Hours(Some(7))
+    );
     let unit = FaultMatrix::unit();
     let faults = cabinet.total(&[
         even(unit, FaultMatrix::voter_fault()),
