@@ -1,5 +1,5 @@
 -- The print of a matrix, number by number: its length, and what stands in the buffer.
-use Rattle.std.proofs.Common.{◌≡◌, ℕ, zero, suc, ◌+◌, ◌*◌, ◌/◌, ◌%◌, ◌<◌, ◌≤◌, ltb, List, [], ◌∷◌, ◌++◌, map, length, get_or, take, Some, None, Ok, Err, decimal, Option, unwrap_or, sym, refl, ap, ◌∙◌, ap₂, arith, w64, Fits}
+use Rattle.std.proofs.Common.{◌≡◌, ℕ, zero, suc, ◌+◌, ◌*◌, ◌/◌, ◌%◌, ◌<◌, ◌≤◌, ltb, List, [], ◌∷◌, ◌++◌, map, length, get_or, take, drop, Some, None, Ok, Err, decimal, Option, unwrap_or, sym, refl, ap, ◌∙◌, ap₂, arith, w64, Fits}
 use Rattle.algebra.specs.Prints.{printed_end}
 use Rattle.matrices.specs.FaultMatrices.{fault_matrices, entry_at, numbers, spaced, matrix_print}
 use Rattle.matrices.specs.Values.{matrix_of}
@@ -7,8 +7,7 @@ use Rattle.matrices.proofs.Values.{entry_place, residue_number}
 use Rattle.refusals.specs.Refusals.{answered}
 use Rattle.refusals.specs.declared.Refusal.TheVariants.{BufferTooShort}
 use Rattle.std.proofs.lemmas.List.FromFn.{get_or-map-range_with_len, length-map-range_with_len}
-use Rattle.std.proofs.lemmas.Fmt.{length-decimal-le}
-use Rattle.std.proofs.lemmas.List.{append-nil, flat_map_more, length-append, length-take-le, map-append, same_lists, take_all, take_more}
+use Rattle.std.proofs.lemmas.List.{append-nil, flat_map_more, get_or-drop, get_or-take, length-append, length-take-le, map-append, same_lists, take_all, take_more}
 use Rattle.std.proofs.lemmas.Bool.{cond-false, cond-true, le-ltb, lt-ltb}
 use Rattle.std.specs.List.{range_with_len, flat_map}
 use Rattle.text.specs.Placed.{after_write, end_of, placed}
@@ -90,9 +89,11 @@ spaced_more ns i some within =
     let front : length (take i ns) ≡ i = length-take-le i ns (omega arith) in
     ap spaced (take_more ns i 0 within) ∙ spaced_push (take i ns) (get_or ns i 0) (omega arith)
 
--- a number has at most 20 digits
-pub digits_few : (n : ℕ) → Fits w64 n → length (decimal n) ≤ 20
-digits_few n fits = length-decimal-le 20 n (omega arith) (omega arith) (omega arith)
+-- the numbers behind the first
+pub rest_number : (ns : List ℕ) (i : ℕ) → i < 271 → get_or (take 271 (drop 1 ns)) i 0 ≡ get_or ns (i + 1) 0
+rest_number ns i within =
+    let next : 1 + i ≡ i + 1 = omega arith in
+    get_or-take 271 (drop 1 ns) i 0 within ∙ get_or-drop 1 ns i 0 ∙ ap (λ p. get_or ns p 0) next
 
 -- the fronts of a print: the first i numbers
 module _ (entries : List ℕ) where
@@ -120,12 +121,12 @@ module _ (entries : List ℕ) where
   abbrev pub Measured : ℕ → ℕ → Type 0
   Measured i len = (len ≡ length (front i)) × (len ≤ 21 * i)
 
-  pub measured_first : (len : ℕ) → Fits w64 (get_or entries 0 0) → len ≡ length (decimal (get_or entries 0 0)) → Measured 1 len
-  measured_first len fits same = (same ∙ sym (ap length (front_first fits)), omega (arith, digits_few (get_or entries 0 0) fits))
+  pub measured_first : (len : ℕ) → Fits w64 (get_or entries 0 0) → len ≡ length (decimal (get_or entries 0 0)) → len ≤ 20 → Measured 1 len
+  measured_first len fits same few = (same ∙ sym (ap length (front_first fits)), omega arith)
 
-  pub measured_more : (i len digits : ℕ) → 1 ≤ i → i < 272 → Fits w64 (get_or entries i 0) → Measured i len → digits ≡ length (decimal (get_or entries i 0)) → Measured (i + 1) (len + (1 + digits))
-  measured_more i len digits some within fits so_far same =
-      (omega (arith, so_far.0, length_front_more i some within fits), omega (arith, so_far.1, digits_few (get_or entries i 0) fits))
+  pub measured_more : (i len digits : ℕ) → 1 ≤ i → i < 272 → Fits w64 (get_or entries i 0) → Measured i len → digits ≡ length (decimal (get_or entries i 0)) → digits ≤ 20 → Measured (i + 1) (len + (1 + digits))
+  measured_more i len digits some within fits so_far same few =
+      (omega (arith, so_far.0, length_front_more i some within fits), omega (arith, so_far.1))
 
   -- the first number has room, and each that follows
   pub room_first : (size : ℕ) → Fits w64 (get_or entries 0 0) → length (matrix_print (matrix_of entries)) ≤ size → 0 + length (decimal (get_or entries 0 0)) ≤ size

@@ -4,31 +4,31 @@
 ghost use Rattle.std.specs.Prelude.{◌≡◌};
 ghost use Rattle.refusals.specs.Refusals.{number};
 
-// Why a call is refused.
+// Why a call is refused, each case with its number.
 #[derive(Clone, Copy, PartialEq, Eq, Debug)]
 pub enum Refusal {
     // no room for another voter trio
-    VotersFull,
+    VotersFull = 1,
     // no room for another module trio
-    ModulesFull,
+    ModulesFull = 2,
     // the voter trio is not there
-    NoVoter,
+    NoVoter = 3,
     // the module trio is not there
-    NoModule,
+    NoModule = 4,
     // the link is there already
-    LinkStands,
+    LinkStands = 5,
     // the link is not there
-    NoLink,
+    NoLink = 6,
     // the link would make a cell of more than 12 voter trios
-    CellTooWide,
+    CellTooWide = 7,
     // the cell is not there
-    NoCell,
+    NoCell = 8,
     // not exactly one entry of weights for each trio
-    WeightsMismatch,
+    WeightsMismatch = 9,
     // a buffer is too short
-    BufferTooShort,
+    BufferTooShort = 26,
     // a line of no known form, or a number in it that is too large
-    BadLine,
+    BadLine = 30,
 }
 
 impl Refusal {
@@ -36,18 +36,6 @@ impl Refusal {
     pub fn number(self) -> u8
         ensures { result ≡ number self }
     {
-        match self {
-            Refusal::VotersFull => 1,
-            Refusal::ModulesFull => 2,
-            Refusal::NoVoter => 3,
-            Refusal::NoModule => 4,
-            Refusal::LinkStands => 5,
-            Refusal::NoLink => 6,
-            Refusal::CellTooWide => 7,
-            Refusal::NoCell => 8,
-            Refusal::WeightsMismatch => 9,
-            Refusal::BufferTooShort => 26,
-            Refusal::BadLine => 30,
-        }
+        self as u8
     }
 }

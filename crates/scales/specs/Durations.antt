@@ -1,10 +1,9 @@
 -- Durations in hours.
-use Rattle.std.specs.Prelude.{ℕ, ◌+◌, ◌-◌, ◌^◌, min, cond, List, [], ◌∷◌, decimal, nat_lt}
+use Rattle.std.specs.Prelude.{ℕ, ◌+◌, ◌-◌, ◌^◌, min, cond, List, [], ◌∷◌, decimal, nat_lt, Option, Some, None}
 use Rattle.std.proofs.Common.{arith}
 use Rattle.algebra.specs.Laws.{Kind}
 use Rattle.scales.specs.Bounded.{Bounded, bounded}
 use Rattle.scales.specs.declared.hours.Hours.{Hours}
-use Rattle.scales.specs.declared.hours.Hours.TheVariants.{Never, Lasts}
 
 -- Never, or a number of hours up to `top`.
 pub data Duration (top : ℕ) : Type 0 where
@@ -46,9 +45,13 @@ most_hours = 2 ^ 32 - 1
 abbrev pub durations : Kind
 durations = durations_to most_hours
 
+-- none is never
+abbrev pub duration : Option ℕ → Duration most_hours
+duration None = never
+duration (Some n) = lasts (held most_hours n)
+
 abbrev pub duration_value : Hours → Duration most_hours
-duration_value Never = never
-duration_value (Lasts n) = lasts (held most_hours n)
+duration_value h = duration h.0
 
 -- '-', or the hours in decimal digits
 abbrev pub duration_print : Duration most_hours → List ℕ

@@ -1,21 +1,12 @@
 -- Arithmetic modulo a number keeps the laws of a scale.
-use Rattle.std.specs.Prelude.{◌≡◌, ℕ, ◌+◌, ◌*◌, ◌/◌, ◌%◌, ◌<◌}
-use Rattle.std.proofs.Common.{add_assoc, add_comm, add-mul, mod-eq_of_lt, mul-add, mul_assoc, mul_comm, mul_right_comm, one-mul, zero-add, zero-mul, sym, ap, ◌∙◌, ltb→lt}
-use Rattle.std.proofs.Math.Nat.{add-mod, add-mod-mod, add-mul-mod_self_right, mod-add-div', mod-add-mod, mod-mod}
+use Rattle.std.specs.Prelude.{◌≡◌, ℕ, ◌+◌, ◌*◌, ◌%◌, ◌<◌}
+use Rattle.std.proofs.Common.{add_assoc, add_comm, mod-eq_of_lt, mul-add, mul_assoc, mul_comm, one-mul, zero-add, zero-mul, sym, ap, ◌∙◌, ltb→lt}
+use Rattle.std.proofs.Math.Nat.{add-mod, add-mod-mod, mod-add-mod, mod-mod}
+use Rattle.std.proofs.lemmas.Nat.{mul-mod_first, mul-mod_second}
 use Rattle.algebra.specs.Laws.{Laws}
 use Rattle.scales.specs.Bounded.{Bounded}
 use Rattle.scales.specs.Remainders.{reduced, modulo}
 use Rattle.scales.specs.BoundedLemmas.{bounded_same}
-
--- a remainder in place of a factor
-mod_mul_mod : (a b m : ℕ) → (a % m * b) % m ≡ (a * b) % m
-mod_mul_mod a b m =
-    let parts : a * b ≡ a % m * b + a / m * b * m =
-    ap (λ k. k * b) (sym (mod-add-div' a m)) ∙ add-mul (a % m) (a / m * m) b ∙ ap (λ k. a % m * b + k) (mul_right_comm (a / m) m b) in
-    sym (ap (λ k. k % m) parts ∙ add-mul-mod_self_right (a % m * b) (a / m * b) m)
-
-mul_mod_mod : (a b m : ℕ) → (a * (b % m)) % m ≡ (a * b) % m
-mul_mod_mod a b m = ap (λ k. k % m) (mul_comm a (b % m)) ∙ mod_mul_mod b a m ∙ ap (λ k. k % m) (mul_comm b a)
 
 module _ (m : ℕ) (some : 0 < m) where
   -- a number below `m` is its own remainder
@@ -34,17 +25,17 @@ module _ (m : ℕ) (some : 0 < m) where
   plus_right x a = bounded_same _ _ (add-mod-mod x.number a m)
 
   times_left : (a : ℕ) (x : Bounded m) → (modulo m some).times (reduced m some a) x ≡ reduced m some (a * x.number)
-  times_left a x = bounded_same _ _ (mod_mul_mod a x.number m)
+  times_left a x = bounded_same _ _ (mul-mod_first a x.number m)
 
   times_right : (x : Bounded m) (a : ℕ) → (modulo m some).times x (reduced m some a) ≡ reduced m some (x.number * a)
-  times_right x a = bounded_same _ _ (mul_mod_mod x.number a m)
+  times_right x a = bounded_same _ _ (mul-mod_second x.number a m)
 
   -- the remainder of a sum and of a product, by the remainders
   pub reduced_plus : (a b : ℕ) → reduced m some (a + b) ≡ (modulo m some).plus (reduced m some a) (reduced m some b)
   reduced_plus a b = bounded_same _ _ (add-mod a b m)
 
   pub reduced_times : (a b : ℕ) → reduced m some (a * b) ≡ (modulo m some).times (reduced m some a) (reduced m some b)
-  reduced_times a b = sym (times_left a (reduced m some b) ∙ bounded_same _ _ (mul_mod_mod a b m))
+  reduced_times a b = sym (times_left a (reduced m some b) ∙ bounded_same _ _ (mul-mod_second a b m))
 
   -- the same, from a number that the code took a remainder for
   pub plus_from : {r : ℕ} (a b : ℕ) → r ≡ (a + b) % m → reduced m some r ≡ (modulo m some).plus (reduced m some a) (reduced m some b)

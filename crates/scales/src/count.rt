@@ -8,7 +8,7 @@ use refusals::Refusal;
 use text::put_decimal;
 
 // How many there are, modulo 2^64.
-#[derive(Clone, Copy)]
+#[derive(Clone, Copy, PartialEq, Eq, Debug)]
 pub struct Count {
     pub n: u64,
 }

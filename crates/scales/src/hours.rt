@@ -7,12 +7,9 @@ use algebra::{Scale, Weight};
 use refusals::Refusal;
 use text::{put, put_decimal};
 
-// A repair that never comes up, or the hours that it lasts.
-#[derive(Clone, Copy)]
-pub enum Hours {
-    Never,
-    Lasts(u32),
-}
+// The hours that a repair lasts, or none where it never comes up. Never is the shortest.
+#[derive(Clone, Copy, PartialEq, Eq, PartialOrd, Ord, Debug)]
+pub struct Hours(pub Option<u32>);
 
 impl Weight for Hours {
     ghost kind = { durations };
@@ -20,28 +17,21 @@ impl Weight for Hours {
     ghost value = { duration_value };
 
     fn nothing() -> Hours {
-        Self::Never
+        Hours(None)
     }
 
     fn unit() -> Hours {
-        Self::Lasts(0)
+        Hours(Some(0))
     }
 
     // The longer one.
     fn plus(&self, other: &Hours) -> Hours {
-        match (*self, *other) {
-            (Hours::Lasts(a), Hours::Lasts(b)) => Hours::Lasts(a.max(b)),
-            (Hours::Lasts(a), Hours::Never) => Hours::Lasts(a),
-            (Hours::Never, b) => b,
-        }
+        (*self).max(*other)
     }
 
-    // The sum, held at the most hours.
+    // The sum, held at the most hours; never where one of the two is.
     fn times(&self, other: &Hours) -> Hours {
-        match (*self, *other) {
-            (Hours::Lasts(a), Hours::Lasts(b)) => Hours::Lasts(a.saturating_add(b)),
-            _ => Hours::Never,
-        }
+        Hours(self.0.zip(other.0).map(|(a, b)| a.saturating_add(b)))
     }
 }
 
@@ -63,9 +53,9 @@ impl Scale for Hours {
     }
 
     fn write(&self, buffer: &mut [u8]) -> Result<usize, Refusal> {
-        let end = match *self {
-            Hours::Never => put(buffer, 0, b"-"),
-            Hours::Lasts(n) => put_decimal(buffer, 0, u64::from(n)),
+        let end = match self.0 {
+            None => put(buffer, 0, b"-"),
+            Some(n) => put_decimal(buffer, 0, u64::from(n)),
         };
         end.ok_or(Refusal::BufferTooShort)
     }

@@ -1,39 +1,27 @@
 -- The digits that a text begins with: how many there are, what each is, and their number.
-use Rattle.std.proofs.Common.{◌≡◌, ℕ, zero, suc, ◌+◌, ◌-◌, ◌*◌, ◌^◌, ◌<◌, ◌≤◌, true, false, cond, List, [], ◌∷◌, map, length, get_or, take, drop, sym, refl, ap, ◌∙◌, inl, inr, zero-lt-suc, arith}
+use Rattle.std.proofs.Common.{◌≡◌, ℕ, ◌-◌, ◌^◌, ◌<◌, ◌≤◌, true, cond, List, [], ◌∷◌, map, length, get_or, drop, sym, refl, ap, ◌∙◌, inl, inr, zero-lt-suc, arith}
 use native.Mathlib.Nat.{pow-le-pow_right}
 use Rattle.std.proofs.lemmas.Int.Digits.{number_lt, number_after_ge}
-use Rattle.std.proofs.lemmas.List.{length-map, at_drop_more, at_drop_all}
+use Rattle.std.proofs.lemmas.List.{length-map, length-take-le}
+use Rattle.std.proofs.lemmas.List.Sums.{prefix_len-le-length, prefix_len_passes, take_while-cons}
 use Rattle.std.proofs.lemmas.Bool.{cases_Bool}
 use Rattle.std.proofs.lemmas.Bool.Decides.{nat_tests}
 use Rattle.std.specs.Int.Digits.{AllBelowBase, number_from_digits_after}
-use Rattle.std.specs.List.{prefix_len}
+use Rattle.std.specs.List.{prefix_len, take_while}
 use Rattle.text.specs.Fields.{is_digit, leading_digits, value_of}
 
 -- a digit in words of numbers
 pub digit_range : (b : ℕ) → is_digit b ≡ true → (48 ≤ b) × (b ≤ 57)
 digit_range b h = (grind (arith, nat_tests), grind (arith, nat_tests))
 
+-- the digits are the front of the text, as long as there are digits
+pub leading_front : (xs : List ℕ) → leading_digits xs ≡ take_while is_digit xs
+unfolding leading_digits
+leading_front [] = refl
+leading_front (x ∷ xs) = ap (λ ds. cond (is_digit x) (x ∷ ds) []) (leading_front xs) ∙ sym (take_while-cons is_digit x xs)
+
 pub length_leading : (xs : List ℕ) → length (leading_digits xs) ≡ prefix_len is_digit xs
-unfolding leading_digits
-length_leading [] = refl
-length_leading (x ∷ xs) =
-    elim (is_digit x) as (λ v. length (cond v (x ∷ leading_digits xs) []) ≡ cond v (1 + prefix_len is_digit xs) 0)
-    [ true ↦ omega (arith, length_leading xs) | false ↦ refl ]
-
--- the digits are the front of the text
-pub take_leading : (xs : List ℕ) → take (length (leading_digits xs)) xs ≡ leading_digits xs
-unfolding leading_digits
-take_leading [] = refl
-take_leading (x ∷ xs) =
-    elim (is_digit x) as (λ v. take (length (cond v (x ∷ leading_digits xs) [])) (x ∷ xs) ≡ cond v (x ∷ leading_digits xs) [])
-    [ true ↦ ap (λ ds. x ∷ ds) (take_leading xs) | false ↦ refl ]
-
-pub length_leading_le : (xs : List ℕ) → length (leading_digits xs) ≤ length xs
-unfolding leading_digits
-length_leading_le [] = omega arith
-length_leading_le (x ∷ xs) =
-    elim (is_digit x) as (λ v. length (cond v (x ∷ leading_digits xs) []) ≤ suc (length xs))
-    [ true ↦ omega (arith, length_leading_le xs) | false ↦ omega arith ]
+length_leading xs = ap length (leading_front xs) ∙ length-take-le (prefix_len is_digit xs) xs (prefix_len-le-length is_digit xs)
 
 -- they are digits throughout
 pub leading_leading : (xs : List ℕ) → leading_digits (leading_digits xs) ≡ leading_digits xs
@@ -45,13 +33,7 @@ leading_leading (x ∷ xs) = elim (cases_Bool (is_digit x)) [
 ]
 
 pub digit_at : (xs : List ℕ) (i : ℕ) → i < length (leading_digits xs) → is_digit (get_or xs i 0) ≡ true
-unfolding leading_digits
-digit_at [] i h = absurd (omega arith)
-digit_at (x ∷ xs) zero h = elim (cases_Bool (is_digit x)) [ inl e ↦ e | inr e ↦ absurd (let k = rw e at h in omega arith) ]
-digit_at (x ∷ xs) (suc i) h = elim (cases_Bool (is_digit x)) [
-  | inl e ↦ digit_at xs i (let k = rw e at h in omega arith)
-  | inr e ↦ absurd (let k = rw e at h in omega arith)
-]
+digit_at xs i h = prefix_len_passes is_digit xs i 0 (omega (arith, length_leading xs))
 
 pub digit_least : (digits : List ℕ) (i : ℕ) → leading_digits digits ≡ digits → i < length digits → 48 ≤ get_or digits i 0
 digit_least digits i all h = (digit_range (get_or digits i 0) (digit_at digits i (rw all h))).0
@@ -80,9 +62,3 @@ module _ (digits : List ℕ) (i n : ℕ) (so_far : number_from_digits_after 10 n
       let bound = value_bound digits (rw all short) in
       let same : value_of (leading_digits digits) ≡ value_of digits = ap value_of all in
       omega (arith, number_after_ge 10 n (map (λ b. b - 48) (drop i digits)) (omega arith))
-
-  pub reads_more : (m : ℕ) → i < length digits → m ≡ n * 10 + (get_or digits i 0 - 48) → number_from_digits_after 10 m (map (λ b. b - 48) (drop (i + 1) digits)) ≡ value_of digits
-  reads_more m h e = rw e (sym (at_drop_more (λ ds. number_from_digits_after 10 n (map (λ b. b - 48) ds)) digits i 0 h) ∙ so_far)
-
-  pub reads_all : length digits ≤ i → n ≡ value_of digits
-  reads_all h = sym (at_drop_all (λ ds. number_from_digits_after 10 n (map (λ b. b - 48) ds)) digits i h) ∙ so_far

@@ -1,4 +1,3 @@
-pub mod Decimals
 pub mod Digits
 pub mod Fields
 pub mod Writes

@@ -1,10 +1,13 @@
 // Numbers and words in lines of bytes: how they are written into a buffer, and how they are read.
 #![tactic(auto)]
 
-ghost use Rattle.std.specs.Prelude.{◌≡◌, ◌≤◌, length, drop, decimal};
+ghost use Rattle.std.specs.Prelude.{◌≡◌, ◌≤◌, length, decimal};
 ghost use Rattle.std.specs.Option.{option_map};
-ghost use Rattle.text.specs.Fields.{field, leading_digits, value_of};
+ghost use Rattle.std.specs.List.{prefix_len};
+ghost use Rattle.text.specs.Fields.{field, is_digit, leading_digits, value_of};
 ghost use Rattle.text.specs.Placed.{after_write, end_of};
+
+use itoa::Buffer;
 
 // Writes `text` into `buffer` from `at` on, and answers where it ends. Where it has no room, nothing is written.
 pub fn put(buffer: &mut [u8], at: usize, text: &[u8]) -> Option<usize>
@@ -19,42 +22,19 @@ pub fn put(buffer: &mut [u8], at: usize, text: &[u8]) -> Option<usize>
     Some(end)
 }
 
-// Writes the decimal digits of `n` at the end of `digits`, and answers where they begin.
-fn fill_digits(digits: &mut [u8; 20], n: u64) -> usize
-    ensures within { result ≤ 20 }
-    ensures after { drop result digits.new ≡ decimal n }
-{
-    let mut rest = n;
-    let mut start = 19;
-    while rest >= 10 {
-        digits[start] = b'0' + (rest % 10) as u8;
-        rest /= 10;
-        start -= 1;
-    }
-    digits[start] = b'0' + rest as u8;
-    start
-}
-
 // Writes the decimal digits of `n`, as `put` writes a text.
 pub fn put_decimal(buffer: &mut [u8], at: usize, n: u64) -> Option<usize>
     ensures value { result ≡ end_of at (decimal n) buffer.old }
     ensures after { buffer.new ≡ after_write at (decimal n) buffer.old }
 {
-    let mut digits = [0; 20];
-    let start = fill_digits(&mut digits, n);
-    put(buffer, at, &digits[start..])
+    put(buffer, at, Buffer::new().format(n).as_bytes())
 }
 
 // How many digits `text` begins with.
 fn count_digits(text: &[u8]) -> usize
-    ensures { result ≡ length (leading_digits text.now) }
+    ensures { result ≡ prefix_len is_digit text.now }
 {
-    for (i, b) in text.iter().enumerate() {
-        if !b.is_ascii_digit() {
-            return i;
-        }
-    }
-    text.len()
+    text.iter().take_while(|b| b.is_ascii_digit()).count()
 }
 
 // The number that up to 10 digits write.

@@ -12,7 +12,7 @@ use text::put_decimal;
 const MODULUS: u16 = 97;
 
 // A number that counts modulo 97 only.
-#[derive(Clone, Copy)]
+#[derive(Clone, Copy, PartialEq, Eq, Debug)]
 pub struct Residue {
     pub n: u8,
 }
@@ -42,11 +42,11 @@ impl Weight for Residue {
     }
 
     fn plus(&self, other: &Residue) -> Residue {
-        Residue::of(self.n as u16 + other.n as u16)
+        Residue::of(u16::from(self.n) + u16::from(other.n))
     }
 
     fn times(&self, other: &Residue) -> Residue {
-        Residue::of(self.n as u16 * other.n as u16)
+        Residue::of(u16::from(self.n) * u16::from(other.n))
     }
 }
 
@@ -68,7 +68,7 @@ impl Scale for Residue {
     }
 
     fn write(&self, buffer: &mut [u8]) -> Result<usize, Refusal> {
-        let least = Residue::of(self.n as u16);
-        put_decimal(buffer, 0, least.n as u64).ok_or(Refusal::BufferTooShort)
+        let least = Residue::of(u16::from(self.n));
+        put_decimal(buffer, 0, u64::from(least.n)).ok_or(Refusal::BufferTooShort)
     }
 }

@@ -11,11 +11,11 @@ use weighing::{PerPosition, Weights};
 // No hours for a whole trio, and these for a faulty one.
 fn repair(a: u32, b: u32, c: u32) -> Weights<Hours> {
     Weights {
-        whole: Hours::Lasts(0),
+        whole: Hours(Some(0)),
         faulty: PerPosition {
-            a: Hours::Lasts(a),
-            b: Hours::Lasts(b),
-            c: Hours::Lasts(c),
+            a: Hours(Some(a)),
+            b: Hours(Some(b)),
+            c: Hours(Some(c)),
         },
     }
 }
@@ -25,8 +25,8 @@ fn patterns_are_counted_on_two_scales(rt: HostRuntime) -> Result<(), Fail> {
     let cabinet = wired(4, 3, &MESH)?;
     let counts = even(Count::unit(), Count::unit());
     let residues = even(Residue::unit(), Residue::unit());
-    assert_eq!(rt; cabinet.total(&[counts; 7])?.n, 760);
-    assert_eq!(rt; cabinet.total(&[residues; 7])?.n, 81);
+    assert_eq!(rt; cabinet.total(&[counts; 7])?, Count { n: 760 });
+    assert_eq!(rt; cabinet.total(&[residues; 7])?, Residue { n: 81 });
     assert_eq!(rt;
         cabinet.total(&[counts; 6]).err(),
         Some(Refusal::WeightsMismatch)
@@ -42,10 +42,10 @@ fn patterns_are_counted_on_two_scales(rt: HostRuntime) -> Result<(), Fail> {
 #[test]
 fn a_linked_pair_in_hours_and_in_faults(rt: HostRuntime) -> Result<(), Fail> {
     let cabinet = wired(1, 1, &[link(0, 0)])?;
-    match cabinet.total(&[repair(1, 2, 6), repair(5, 1, 1)])? {
-        Hours::Lasts(n) => assert_eq!(rt; n, 7),
-        Hours::Never => return Err(Fail::new("never")),
-    }
+    assert_eq!(rt;
+        cabinet.total(&[repair(1, 2, 6), repair(5, 1, 1)])?,
+        Hours(Some(7))
+    );
     let unit = FaultMatrix::unit();
     let faults = cabinet.total(&[
         even(unit, FaultMatrix::voter_fault()),

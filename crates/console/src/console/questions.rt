@@ -43,7 +43,7 @@ impl Console {
     pub(super) fn longest_repair(&self, hours: u32) -> Result<Hours, Refusal>
         ensures { result_map_both duration_value (λ e. e) result ≡ Ok (longest_repair hours (network_in self.now)) }
     {
-        let weights = [entry_of(Hours::Lasts(0), Hours::Lasts(hours)); MOST_TRIOS];
+        let weights = [entry_of(Hours(Some(0)), Hours(Some(hours))); MOST_TRIOS];
         self.cabinet.total(&weights[..self.trio_count()])
     }
 

@@ -3,11 +3,12 @@ ghost use Rattle.std.specs.Prelude.{◌≡◌, ◌<◌, ◌&&◌, if◌then◌el
 ghost use Rattle.matrices.specs.FaultMatrices.{entry_at, module_fault, powers, voter_fault};
 ghost use Rattle.matrices.specs.Values.{matrix_of, matrix_value};
 
-use super::{COLUMNS, FaultMatrix, ROWS};
+use super::place::Place;
+use super::{COLUMNS, FaultMatrix, PLACES, ROWS};
 
 impl FaultMatrix {
     // The matrix with these entries, row by row.
-    pub fn new(entries: [u64; 272]) -> FaultMatrix
+    pub fn new(entries: [u64; PLACES]) -> FaultMatrix
         ensures { matrix_value result ≡ matrix_of entries }
     {
         FaultMatrix { entries }
@@ -20,31 +21,29 @@ impl FaultMatrix {
         if row >= ROWS || column >= COLUMNS {
             return None;
         }
-        Some(self.entries[COLUMNS * row + column])
+        Some(self.entries[Place::new(row, column).index()])
     }
 
     // The unknown of voter faults.
     pub fn voter_fault() -> FaultMatrix
         ensures { matrix_value result ≡ voter_fault }
     {
-        FaultMatrix::powers(1, 0)
+        FaultMatrix::powers(Place::new(1, 0))
     }
 
     // The unknown of module faults.
     pub fn module_fault() -> FaultMatrix
         ensures { matrix_value result ≡ module_fault }
     {
-        FaultMatrix::powers(0, 1)
+        FaultMatrix::powers(Place::new(0, 1))
     }
 
     // Powers of the two unknowns, multiplied: one in one place, and zero elsewhere.
-    pub(super) fn powers(row: usize, column: usize) -> FaultMatrix
-        requires row_within { row < 17 }
-        requires column_within { column < 16 }
-        ensures { matrix_value result ≡ powers row column }
+    pub(super) fn powers(place: Place) -> FaultMatrix
+        ensures { matrix_value result ≡ powers place.row place.column }
     {
-        let mut places = [0; 272];
-        places[COLUMNS * row + column] = 1;
-        FaultMatrix { entries: places }
+        let mut numbers = [0; PLACES];
+        numbers[place.index()] = 1;
+        FaultMatrix { entries: numbers }
     }
 }

@@ -4,15 +4,16 @@ ghost use Rattle.matrices.specs.FaultMatrices.{matrix_print};
 ghost use Rattle.matrices.specs.Values.{matrix_value};
 ghost use Rattle.text.specs.Placed.{placed};
 
-use super::{FaultMatrix, PLACES};
+use super::FaultMatrix;
+use itoa::Buffer;
 use text::{put, put_decimal};
 
 // How many digits a number has.
 fn digit_count(n: u64) -> usize
-    ensures { result ≡ length (decimal n) }
+    ensures value { result ≡ length (decimal n) }
+    ensures few { result ≤ 20 }
 {
-    let mut digits = [0; 20];
-    put_decimal(&mut digits, 0, n).unwrap_or(0)
+    Buffer::new().format(n).len()
 }
 
 // Writes a space and a number from `at` on, and answers where it ends.
@@ -31,8 +32,8 @@ impl FaultMatrix {
         ensures { result ≡ length (matrix_print (matrix_value self.now)) }
     {
         let mut len = digit_count(self.entries[0]);
-        for place in 1..PLACES {
-            len += 1 + digit_count(self.entries[place]);
+        for n in &self.entries[1..] {
+            len += 1 + digit_count(*n);
         }
         len
     }
@@ -44,8 +45,8 @@ impl FaultMatrix {
         ensures after { buffer.new ≡ placed 0 (matrix_print (matrix_value self.now)) buffer.old }
     {
         let mut end = put_decimal(buffer, 0, self.entries[0]).unwrap_or(0);
-        for place in 1..PLACES {
-            end = put_after_space(buffer, end, self.entries[place]);
+        for n in &self.entries[1..] {
+            end = put_after_space(buffer, end, *n);
         }
         end
     }

@@ -4,9 +4,11 @@ ghost use Rattle.matrices.specs.Values.{matrix_value};
 ghost use Rattle.matrices.specs.FaultMatricesLemmas.{fault_matrices_laws};
 ghost use Rattle.std.proofs.Common.{ap, lit<};
 
-use super::{COLUMNS, FaultMatrix, PLACES};
+use super::place::Place;
+use super::{FaultMatrix, PLACES};
 use algebra::{Scale, Weight};
 use refusals::Refusal;
+use std::array;
 
 impl Weight for FaultMatrix {
     ghost kind = { fault_matrices };
@@ -14,27 +16,25 @@ impl Weight for FaultMatrix {
     ghost value = { matrix_value };
 
     fn nothing() -> FaultMatrix {
-        FaultMatrix { entries: [0; 272] }
+        FaultMatrix {
+            entries: [0; PLACES],
+        }
     }
 
     fn unit() -> FaultMatrix {
-        FaultMatrix::powers(0, 0)
+        FaultMatrix::powers(Place::new(0, 0))
     }
 
     fn plus(&self, other: &FaultMatrix) -> FaultMatrix {
-        let mut entries = [0; 272];
-        for place in 0..PLACES {
-            entries[place] = self.entries[place].wrapping_add(other.entries[place]);
+        FaultMatrix {
+            entries: array::from_fn(|index| self.entries[index].wrapping_add(other.entries[index])),
         }
-        FaultMatrix { entries }
     }
 
     fn times(&self, other: &FaultMatrix) -> FaultMatrix {
-        let mut entries = [0; 272];
-        for place in 0..PLACES {
-            entries[place] = self.product_entry(other, place / COLUMNS, place % COLUMNS);
+        FaultMatrix {
+            entries: array::from_fn(|index| self.product_entry(other, Place::of(index))),
         }
-        FaultMatrix { entries }
     }
 }
 

@@ -1,7 +1,7 @@
 -- No turn passes the number of all the digits, which is small.
 use Rattle.std.proofs.Common.{refl, arith}
 use Rattle.text.specs.Fields.{value_of}
-use Rattle.text.proofs.Digits.{digit_least, reads_small, reads_more, reads_all}
+use Rattle.text.proofs.Digits.{digit_least, reads_small}
 use Rattle.text.proofs.number_of.Goals as goal
 
 pub loop-b-init : goal.loop-b-init
@@ -16,9 +16,3 @@ overflow_sub-b c = digit_least _ _ c.requires.all (omega arith)
 
 pub overflow_add-n : goal.overflow_add-n
 overflow_add-n c = omega (arith, reads_small _ c.loop-b.b-index _ c.loop-b.invariant c.requires.short c.requires.all)
-
-pub loop-b-preserved : goal.loop-b-preserved
-loop-b-preserved c = reads_more _ c.loop-b.b-index _ c.loop-b.invariant _ (omega arith) (omega arith)
-
-pub returns : goal.returns
-returns c = reads_all _ c.loop-b.b-index _ c.loop-b.invariant (omega arith)

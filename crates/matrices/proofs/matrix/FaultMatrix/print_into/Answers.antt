@@ -1,11 +1,11 @@
 -- Each turn writes a space and a number, which have room.
-use Rattle.std.proofs.Common.{length, get_or, decimal, ap, ◌∙◌, arith, rules}
-use Rattle.matrices.proofs.Prints.{ends, front_all, front_first, length_front_more, printed_first, printed_more, room_first, room_more}
+use Rattle.std.proofs.Common.{◌+◌, ◌∷◌, length, get_or, decimal, ap, ◌∙◌, arith, rules}
+use Rattle.matrices.proofs.Prints.{ends, front_all, front_first, length_front_more, printed_first, printed_more, rest_number, room_first, room_more}
 use Rattle.matrices.proofs.matrix.FaultMatrix.print_into.Goals as goal
 use Rattle.text.specs.Placed.{placed}
 
-pub loop-place-init : goal.loop-place-init
-loop-place-init c =
+pub loop-n-init : goal.loop-n-init
+loop-n-init c =
     let xs = c.args.self.now.entries in
     let end =
     c.unwrap_or-end.ensures
@@ -14,21 +14,28 @@ loop-place-init c =
 
 pub put_after_space-end-requires : goal.put_after_space-end-requires
 put_after_space-end-requires c =
-    omega (arith, c.loop-place.invariant.0, room_more c.args.self.now.entries c.loop-place.place (length c.loop-place.buffer) (omega arith) (omega arith) (search rules) (omega arith))
+    let xs = c.args.self.now.entries in
+    let i = c.loop-n.n-index in
+    let digits = ap (λ n. length (decimal n)) (rest_number xs i (omega arith)) in
+    omega (arith, digits, c.loop-n.invariant.0, room_more xs (i + 1) (length c.loop-n.buffer) (omega arith) (omega arith) (search rules) (omega arith))
 
-pub loop-place-preserved : goal.loop-place-preserved
-loop-place-preserved c = (
-  omega (arith, c.loop-place.invariant.0, length_front_more c.args.self.now.entries c.loop-place.place (omega arith) (omega arith) (search rules)),
-  λ b room first.
-      printed_more c.args.self.now.entries c.loop-place.place c.loop-place.end b c.loop-place.buffer c.put_after_space-end.new.buffer
-      (omega arith) (omega arith) (search rules) room c.loop-place.invariant.0 (c.loop-place.invariant.1 b room first) c.put_after_space-end.ensures.after,
-)
+pub loop-n-preserved : goal.loop-n-preserved
+loop-n-preserved c =
+    let xs = c.args.self.now.entries in
+    let i = c.loop-n.n-index in
+    let number = rest_number xs i (omega arith) in
+    let written = c.put_after_space-end.ensures.after ∙ ap (λ n. placed c.loop-n.end (32 ∷ decimal n) c.loop-n.buffer) number in (
+      omega (arith, c.loop-n.invariant.0, ap (λ n. length (decimal n)) number, length_front_more xs (i + 1) (omega arith) (omega arith) (search rules)),
+      λ b room first.
+          printed_more xs (i + 1) c.loop-n.end b c.loop-n.buffer c.put_after_space-end.new.buffer
+          (omega arith) (omega arith) (search rules) room c.loop-n.invariant.0 (c.loop-n.invariant.1 b room first) written,
+    )
 
 pub returns : goal.returns
 returns c =
     let xs = c.args.self.now.entries in
-    let all = front_all xs c.loop-place.place (omega arith) in
+    let all = front_all xs (c.loop-n.n-index + 1) (omega arith) in
     record {
-      value = c.loop-place.invariant.0 ∙ ap length all;
-      after = c.loop-place.invariant.1 c.args.buffer.now c.requires (printed_first xs c.args.buffer.now c.put_decimal.new.buffer (search rules) c.requires c.put_decimal.ensures.after) ∙ ap (λ t. placed 0 t c.args.buffer.now) all;
+      value = c.loop-n.invariant.0 ∙ ap length all;
+      after = c.loop-n.invariant.1 c.args.buffer.now c.requires (printed_first xs c.args.buffer.now c.put_decimal.new.buffer (search rules) c.requires c.put_decimal.ensures.after) ∙ ap (λ t. placed 0 t c.args.buffer.now) all;
     }

@@ -3,4 +3,4 @@ use Rattle.matrices.proofs.Values.{Summed, times_term}
 use Rattle.matrices.proofs.matrix.FaultMatrix.row_product.Given as goal
 
 abbrev pub invariant-loop-b : goal.invariant-loop-b
-invariant-loop-b l = Summed (times_term l.self.entries l.other.entries l.i l.j l.a) l.b l.total
+invariant-loop-b l = Summed (times_term l.self.entries l.other.entries l.place.row l.place.column l.a) l.b l.total

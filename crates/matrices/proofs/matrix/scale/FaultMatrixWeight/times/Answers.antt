@@ -1,18 +1,12 @@
--- Each turn fills in one entry of the product.
-use Rattle.std.proofs.Common.{arith}
-use Rattle.matrices.proofs.Values.{filled_more, filled_none, times_entry, times_value}
+-- Each call gives one entry of the product.
+use Rattle.std.proofs.Common.{◌≡◌, ◌/◌, ◌%◌, arith, rules}
+use Rattle.matrices.specs.Values.{residue}
+use Rattle.matrices.proofs.Values.{given, times_entry, times_value}
 use Rattle.matrices.proofs.matrix.scale.FaultMatrixWeight.times.Goals as goal
 
-pub loop-place-init : goal.loop-place-init
-loop-place-init c = filled_none (times_entry c.args.self.now.entries c.args.other.now.entries)
-
-pub loop-place-preserved : goal.loop-place-preserved
-loop-place-preserved c =
-    filled_more (times_entry c.args.self.now.entries c.args.other.now.entries)
-    c.loop-place.place _ c.loop-place.entries (omega arith) c.loop-place.invariant c.product_entry.ensures
-
-pub invariant_of-result : goal.invariant_of-result
-invariant_of-result c = record { long = c.loop-place.invariant.0 }
-
 pub returns : goal.returns
-returns c = times_value c.args.self.now.entries c.args.other.now.entries c.loop-place.entries c.loop-place.place (omega arith) c.loop-place.invariant
+returns c =
+    let xs = c.args.self.now.entries in
+    let ys = c.args.other.now.entries in
+    times_value xs ys c.from_fn.result
+    (λ p h. given _ _ (λ i y. residue y ≡ times_entry xs ys (i / 16) (i % 16)) (λ i y q called. search rules) c.from_fn.result 0 272 c.from_fn.ensures.items.each p (omega arith) (omega arith))
