@@ -10,9 +10,9 @@ use Rattle.network.specs.Patterns.{A, B, C, State, whole, at, Weights, total}
 use Rattle.network.specs.Questions.{total_answer, weights_mismatch}
 use Rattle.refusals.specs.Refusals.{answered}
 use Rattle.refusals.specs.declared.Refusal.{Refusal}
-use Rattle.weighing.specs.Entries.{read, read_all}
+use Rattle.weighing.specs.Entries.{entry_of, read, read_all}
 use Rattle.weighing.specs.declared.weights.Weights.{Weights as Entry}
-use Rattle.console.specs.Totals.{alike, entry_of, uniform}
+use Rattle.console.specs.Totals.{alike, uniform}
 
 module _ {W V : Type 0} (value : W → V) (sound fault : W) where
   read_alike : read value (entry_of sound fault) ≡ alike (value sound) (value fault)

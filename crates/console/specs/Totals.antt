@@ -6,7 +6,6 @@ use Rattle.network.specs.Patterns.{State, whole, at, Weights, total}
 use Rattle.scales.specs.Bounded.{Bounded}
 use Rattle.scales.specs.Counts.{counts, count_limit}
 use Rattle.scales.specs.Durations.{Duration, lasts, durations, held, most_hours}
-use Rattle.weighing.specs.declared.weights.Weights.{Weights as Entry}
 
 -- one weight for a whole trio, and one for a faulty trio at whichever position
 abbrev pub alike : {V : Type 0} → V → V → State → V
@@ -27,7 +26,3 @@ lasting hours = lasts (held most_hours hours)
 -- the longest repair of a tolerated pattern, where each faulty trio takes these hours
 unfoldable pub longest_repair : ℕ → Network → Duration most_hours
 longest_repair hours n = total durations n (uniform durations n (lasting 0) (lasting hours))
-
--- an entry with one weight for whole and one for each position
-abbrev pub entry_of : {W : Type 0} → W → W → Entry W
-entry_of sound fault = record { whole = sound; faulty = record { a = fault; b = fault; c = fault } }

@@ -56,7 +56,7 @@ pub(crate) fn write_reply(buffer: &mut [u8], answer: Result<Outcome, Refusal>) -
         Ok(outcome) => write_outcome(buffer, outcome),
         Err(refusal) => {
             let end = put(buffer, 0, b"no ")?;
-            let end = put_decimal(buffer, end, refusal.number() as u64)?;
+            let end = put_decimal(buffer, end, u64::from(refusal.number()))?;
             put(buffer, end, b"\n")
         }
     }

@@ -18,10 +18,10 @@ fn answer(console: &mut Console, line: &[u8], out: &mut impl Write) -> anyhow::R
     ensures { network_in console.new ≡ after_line line.now (network_in console.old) }
 {
     let mut reply = [0; REPLY_ROOM];
-    match console.answer(line, &mut reply) {
-        Ok(n) => out.write_all(&reply[0..n])?,
-        Err(_) => return Err(anyhow!("a reply has no room")),
-    }
+    let len = console
+        .answer(line, &mut reply)
+        .map_err(|_| anyhow!("a reply has no room"))?;
+    out.write_all(&reply[..len])?;
     Ok(())
 }
 

@@ -1,5 +1,5 @@
 // The combinations of a cell with four voter trios.
-use crate::wirings::{MESH, even, is_set, wired};
+use crate::wirings::{MESH, is_set, wired};
 use algebra::Weight;
 use network::Link;
 use scales::Count;
@@ -32,9 +32,9 @@ const ROWS: [Row; 15] = [
 
 // Weights under which a total counts the patterns with just these voters and no module faulty.
 fn just_faulty(voters: TrioSet) -> [Weights<Count>; 7] {
-    let mut weights = [even(Count::unit(), Count::nothing()); 7];
+    let mut weights = [Weights::alike(Count::unit(), Count::nothing()); 7];
     for v in voters {
-        weights[v] = even(Count::nothing(), Count::unit());
+        weights[v] = Weights::alike(Count::nothing(), Count::unit());
     }
     weights
 }

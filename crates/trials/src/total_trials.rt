@@ -1,6 +1,6 @@
 // Totals on several scales.
 use crate::Residue;
-use crate::wirings::{MESH, even, link, wired};
+use crate::wirings::{MESH, link, wired};
 use algebra::Weight;
 use matrices::FaultMatrix;
 use refusals::Refusal;
@@ -23,8 +23,8 @@ fn repair(a: u32, b: u32, c: u32) -> Weights<Hours> {
 #[test]
 fn patterns_are_counted_on_two_scales(rt: HostRuntime) -> Result<(), Fail> {
     let cabinet = wired(4, 3, &MESH)?;
-    let counts = even(Count::unit(), Count::unit());
-    let residues = even(Residue::unit(), Residue::unit());
+    let counts = Weights::alike(Count::unit(), Count::unit());
+    let residues = Weights::alike(Residue::unit(), Residue::unit());
     assert_eq!(rt; cabinet.total(&[counts; 7])?, Count { n: 760 });
     assert_eq!(rt; cabinet.total(&[residues; 7])?, Residue { n: 81 });
     assert_eq!(rt;
@@ -48,8 +48,8 @@ fn a_linked_pair_in_hours_and_in_faults(rt: HostRuntime) -> Result<(), Fail> {
     );
     let unit = FaultMatrix::unit();
     let faults = cabinet.total(&[
-        even(unit, FaultMatrix::voter_fault()),
-        even(unit, FaultMatrix::module_fault()),
+        Weights::alike(unit, FaultMatrix::voter_fault()),
+        Weights::alike(unit, FaultMatrix::module_fault()),
     ])?;
     assert_eq!(rt; faults.entry(0, 0), Some(1));
     assert_eq!(rt; faults.entry(0, 1), Some(3));

@@ -1,10 +1,8 @@
 // Cabinets, sets and weights for the trials.
-use algebra::Weight;
 use cabinet::Cabinet;
 use network::Link;
 use refusals::Refusal;
 use sets::TrioSet;
-use weighing::{PerPosition, Weights};
 
 // A link between these trios.
 pub(crate) const fn link(voter: usize, module: usize) -> Link {
@@ -44,16 +42,4 @@ pub(crate) fn wired(
 // Whether the set has just these members.
 pub(crate) fn is_set(set: TrioSet, members: &[usize]) -> bool {
     set.len() == members.len() && members.iter().all(|i| set.contains(*i))
-}
-
-// The same weight for a fault at each position.
-pub(crate) fn even<W: Weight>(whole: W, faulty: W) -> Weights<W> {
-    Weights {
-        whole,
-        faulty: PerPosition {
-            a: faulty,
-            b: faulty,
-            c: faulty,
-        },
-    }
 }

@@ -46,3 +46,7 @@ first_members s n = filter (member s) (range_with_len 0 n)
 -- a cell without the voter trios from v on and the module trios from m on
 abbrev pub shown_below : ℕ → ℕ → Cell → Members
 shown_below v m c = (first_members c.voters v, first_members c.modules m)
+
+-- an entry with one weight for whole and one for each position
+abbrev pub entry_of : {W : Type 0} → W → W → Entry W
+entry_of sound fault = record { whole = sound; faulty = record { a = fault; b = fault; c = fault } }

@@ -1,5 +1,6 @@
 // The weights of a trio.
 
+mod alike;
 mod positions;
 mod shares;
 

@@ -5,29 +5,15 @@ ghost use Rattle.network.specs.Networks.{module_count, voter_count};
 ghost use Rattle.scales.specs.Counts.{count_value};
 ghost use Rattle.scales.specs.Durations.{duration_value};
 ghost use Rattle.console.specs.Consoles.{network_in};
-ghost use Rattle.console.specs.Totals.{entry_of, longest_repair, pattern_count};
+ghost use Rattle.console.specs.Totals.{longest_repair, pattern_count};
 
 use super::Console;
 use refusals::Refusal;
 use scales::{Count, Hours};
-use weighing::{PerPosition, Weights};
+use weighing::Weights;
 
 // Trios in a cabinet.
 const MOST_TRIOS: usize = 31;
-
-// One weight for whole, and one for each position.
-fn entry_of<W: Copy>(whole: W, fault: W) -> Weights<W>
-    ensures { result ≡ entry_of whole fault }
-{
-    Weights {
-        whole,
-        faulty: PerPosition {
-            a: fault,
-            b: fault,
-            c: fault,
-        },
-    }
-}
 
 impl Console {
     // How many fault patterns are tolerated.
@@ -35,7 +21,7 @@ impl Console {
         ensures { result_map_both count_value (λ e. e) result ≡ Ok (pattern_count (network_in self.now)) }
     {
         let one = Count { n: 1 };
-        let weights = [entry_of(one, one); MOST_TRIOS];
+        let weights = [Weights::alike(one, one); MOST_TRIOS];
         self.cabinet.total(&weights[..self.trio_count()])
     }
 
@@ -43,7 +29,7 @@ impl Console {
     pub(super) fn longest_repair(&self, hours: u32) -> Result<Hours, Refusal>
         ensures { result_map_both duration_value (λ e. e) result ≡ Ok (longest_repair hours (network_in self.now)) }
     {
-        let weights = [entry_of(Hours(Some(0)), Hours(Some(hours))); MOST_TRIOS];
+        let weights = [Weights::alike(Hours(Some(0)), Hours(Some(hours))); MOST_TRIOS];
         self.cabinet.total(&weights[..self.trio_count()])
     }
 

@@ -2,6 +2,6 @@
 use Rattle.console.specs.Replies.{no_room}
 use Rattle.handset.proofs.answer.Goals as goal
 
-pub returns-in-Err : goal.returns-in-Err
+pub returns-in_err-len : goal.returns-in_err-len
 unfolding no_room
-returns-in-Err g c = c.answer.ensures.after
+returns-in_err-len g c = c.answer.ensures.after

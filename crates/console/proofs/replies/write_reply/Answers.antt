@@ -17,7 +17,7 @@ returns-in_err-end-in-Err-2 c =
     let b_1 = c.put.new.buffer in
     let k = c.in_ok-end-in-Err.end in
     let fits = second_fits (codes "no ") (decimal (number e)) b (omega (arith, digits_few e)) k b_1 c.in_ok-end-in-Err.ensures.value c.put.ensures.after in
-    absurd (no_end k (decimal (number e)) b_1 fits (c.in_err-end-in-Err-2.ensures.value ∙ ap (λ x. end_of k (decimal x) b_1) c.number.ensures))
+    absurd (no_end k (decimal (number e)) b_1 fits (c.in_err-end-in-Err-2.ensures.value ∙ ap (λ x. end_of k (decimal x) b_1) (c.from.ensures ∙ c.number.ensures)))
 
 pub returns-in_ok-end-in-Err-2 : goal.returns-in_ok-end-in-Err-2
 unfolding reply_text
@@ -32,8 +32,8 @@ returns-in_ok-end-in-Err-2 c =
     let is = c.put.ensures.after in
     let few = digits_few e in
     let fits = second_fits (codes "no ") digits b (omega arith) k b_1 at is in
-    let at_2 = c.in_ok-end-in-Err-2.ensures.value ∙ ap (λ x. end_of k (decimal x) b_1) c.number.ensures in
-    let is_2 = c.put_decimal.ensures.after ∙ ap (λ x. after_write k (decimal x) b_1) c.number.ensures in
+    let at_2 = c.in_ok-end-in-Err-2.ensures.value ∙ ap (λ x. end_of k (decimal x) b_1) (c.from.ensures ∙ c.number.ensures) in
+    let is_2 = c.put_decimal.ensures.after ∙ ap (λ x. after_write k (decimal x) b_1) (c.from.ensures ∙ c.number.ensures) in
     let w =
     all_written (codes "no ") digits b (omega arith) k b_1 at is
     j c.put_decimal.new.buffer (the_end k j digits b_1 fits at_2) (is_2 ∙ after_write_fits k digits b_1 fits)

@@ -11,4 +11,4 @@ unfolding longest_repair
 returns c =
     let count = c.trio_count.result in
     uniform_total durations duration_value (network_in c.args.self.now) (record { 0 = Some 0 }) (record { 0 = Some c.args.hours }) _ 31 count c.total.ensures
-    (ap (λ e. take count (replicate 31 e)) c.entry_of-weights.ensures) c.trio_count.ensures.few c.trio_count.ensures.value
+    (ap (λ e. take count (replicate 31 e)) c.alike-weights.ensures) c.trio_count.ensures.few c.trio_count.ensures.value

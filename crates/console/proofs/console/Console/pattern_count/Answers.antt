@@ -11,4 +11,4 @@ unfolding pattern_count
 returns c =
     let count = c.trio_count.result in
     uniform_total counts count_value (network_in c.args.self.now) (record { n = 1 }) (record { n = 1 }) _ 31 count c.total.ensures
-    (ap (λ e. take count (replicate 31 e)) c.entry_of-weights.ensures) c.trio_count.ensures.few c.trio_count.ensures.value
+    (ap (λ e. take count (replicate 31 e)) c.alike-weights.ensures) c.trio_count.ensures.few c.trio_count.ensures.value
