@@ -26,7 +26,7 @@ fn cells_join_and_part(rt: HostRuntime) -> Result<(), Fail> {
 
 #[test]
 fn cells_are_numbered_by_their_first_trio(rt: HostRuntime) -> Result<(), Fail> {
-    let cabinet = wired(3, 3, &[link(1, 2), link(2, 2)])?;
+    let cabinet = wired(3, 3, &[(1, 2), (2, 2)])?;
     assert_eq!(rt; cabinet.cell_count(), 4);
     assert_eq!(rt; cabinet.cell_of(Trio::Voter(0)), Ok(0));
     assert_eq!(rt; cabinet.cell_of(Trio::Voter(2)), Ok(1));
@@ -55,7 +55,7 @@ fn a_thirteenth_voter_does_not_fit(rt: HostRuntime) -> Result<(), Fail> {
 
 #[test]
 fn parts_are_changed_and_absent_trios_refused(rt: HostRuntime) -> Result<(), Fail> {
-    let mut cabinet = wired(2, 1, &[link(1, 0)])?;
+    let mut cabinet = wired(2, 1, &[(1, 0)])?;
     cabinet.change_part(Trio::Voter(1), 65535)?;
     cabinet.change_part(Trio::Module(0), 7)?;
     assert_eq!(rt; cabinet.code(Trio::Voter(1)), Ok(65535));

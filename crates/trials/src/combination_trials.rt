@@ -1,7 +1,6 @@
 // The combinations of a cell with four voter trios.
-use crate::wirings::{MESH, is_set, wired};
+use crate::wirings::{MESH, is_set, link, wired};
 use algebra::Weight;
-use network::Link;
 use scales::Count;
 use sets::TrioSet;
 use std::test::Fail;
@@ -33,14 +32,19 @@ const ROWS: [Row; 15] = [
 // Weights under which a total counts the patterns with just these voters and no module faulty.
 fn just_faulty(voters: TrioSet) -> [Weights<Count>; 7] {
     let mut weights = [Weights::alike(Count::unit(), Count::nothing()); 7];
-    for v in voters {
-        weights[v] = Weights::alike(Count::nothing(), Count::unit());
+    for (v, entry) in weights.iter_mut().enumerate() {
+        if voters.contains(v) {
+            *entry = Weights::alike(Count::nothing(), Count::unit());
+        }
     }
     weights
 }
 
-fn linked(pairs: &[Link]) -> Links {
-    pairs.iter().fold(Links::none(), |links, link| links.with(*link))
+fn linked(pairs: &[(usize, usize)]) -> Links {
+    pairs.iter().fold(
+        Links::none(),
+        |links, pair| links.with(link(pair.0, pair.1)),
+    )
 }
 
 #[test]

@@ -1,6 +1,6 @@
 // Totals on several scales.
 use crate::Residue;
-use crate::wirings::{MESH, link, wired};
+use crate::wirings::{MESH, wired};
 use algebra::Weight;
 use matrices::FaultMatrix;
 use refusals::Refusal;
@@ -41,7 +41,7 @@ fn patterns_are_counted_on_two_scales(rt: HostRuntime) -> Result<(), Fail> {
 
 #[test]
 fn a_linked_pair_in_hours_and_in_faults(rt: HostRuntime) -> Result<(), Fail> {
-    let cabinet = wired(1, 1, &[link(0, 0)])?;
+    let cabinet = wired(1, 1, &[(0, 0)])?;
     assert_eq!(rt;
         cabinet.total(&[repair(1, 2, 6), repair(5, 1, 1)])?,
         Hours(Some(7))

@@ -5,26 +5,26 @@ use refusals::Refusal;
 use sets::TrioSet;
 
 // A link between these trios.
-pub(crate) const fn link(voter: usize, module: usize) -> Link {
+pub(crate) fn link(voter: usize, module: usize) -> Link {
     Link { voter, module }
 }
 
 // The links between four voter trios and three module trios.
-pub(crate) const MESH: [Link; 7] = [
-    link(0, 0),
-    link(1, 0),
-    link(1, 1),
-    link(2, 1),
-    link(2, 2),
-    link(3, 1),
-    link(3, 2),
+pub(crate) const MESH: [(usize, usize); 7] = [
+    (0, 0),
+    (1, 0),
+    (1, 1),
+    (2, 1),
+    (2, 2),
+    (3, 1),
+    (3, 2),
 ];
 
 // A cabinet with so many trios of each kind and these links.
 pub(crate) fn wired(
     voters: u16,
     modules: u16,
-    links: &[Link],
+    links: &[(usize, usize)],
 ) -> Result<Cabinet, Refusal> {
     let mut cabinet = Cabinet::new();
     for v in 0..voters {
@@ -33,8 +33,8 @@ pub(crate) fn wired(
     for m in 0..modules {
         cabinet.add_module(m)?;
     }
-    for link in links {
-        cabinet.link(*link)?;
+    for (voter, module) in links.iter().copied() {
+        cabinet.link(link(voter, module))?;
     }
     Ok(cabinet)
 }
