@@ -1,4 +1,4 @@
--- What the entries of a matrix stand for, as loops add, multiply and fill them.
+-- What the entries of a matrix stand for, as they are added, multiplied and filled in.
 use Rattle.std.proofs.Common.{◌≡◌, ℕ, zero, suc, ◌+◌, ◌-◌, ◌*◌, ◌/◌, ◌%◌, ◌^◌, ◌<◌, ◌≤◌, false, cond, ◌&&◌, eqb, List, length, get_or, set, replicate, sym, refl, ap, ◌∙◌, ap₂, inl, inr, mod-eq_of_lt, arith, lit<, w64, Fits, subst}
 use Rattle.algebra.specs.Sums.{sum}
 use Rattle.algebra.proofs.Steps.{sum_next}

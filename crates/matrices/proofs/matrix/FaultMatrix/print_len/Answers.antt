@@ -6,9 +6,6 @@ use Rattle.matrices.proofs.matrix.FaultMatrix.print_len.Goals as goal
 pub loop-n-init : goal.loop-n-init
 loop-n-init c = measured_first c.args.self.now.entries c.digit_count-len.result (search rules) c.digit_count-len.ensures.value c.digit_count-len.ensures.few
 
-pub overflow_add-len-in-loop-n : goal.overflow_add-len-in-loop-n
-overflow_add-len-in-loop-n c = omega (arith, c.loop-n.invariant.1)
-
 pub loop-n-preserved : goal.loop-n-preserved
 loop-n-preserved c =
     let xs = c.args.self.now.entries in
