@@ -20,9 +20,10 @@ impl Cabinet {
     pub fn cells(&self) -> CellList
         ensures { shown_list result.items ≡ all_cells (network self.now) }
     {
+        let voters = (0..self.voters.len()).map(Trio::Voter);
+        let modules = (0..self.modules.len()).map(Trio::Module);
         let mut list = ArrayVec::new();
-        for k in 0..self.voters.len() + self.modules.len() {
-            let trio = self.trio_at(k);
+        for trio in voters.chain(modules) {
             let cell = self.links.cell_around(trio);
             if cell.starts_at(trio) {
                 list.push(cell);
@@ -54,18 +55,6 @@ impl Cabinet {
     {
         let list = self.cells();
         list.as_slice().get(number).copied().ok_or(Refusal::NoCell)
-    }
-
-    // The trio at place `k`, voters first.
-    fn trio_at(&self, k: usize) -> Trio
-        ensures { k < voter_count (network self.now) + module_count (network self.now) → result ≡ slice_index_or (trios (network self.now)) k (Voter 0) }
-    {
-        let voters = self.voters.len();
-        if k < voters {
-            Trio::Voter(k)
-        } else {
-            Trio::Module(k - voters)
-        }
     }
 }
 

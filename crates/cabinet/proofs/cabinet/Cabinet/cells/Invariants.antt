@@ -5,5 +5,7 @@ use Rattle.cabinet.specs.Cabinets.{network}
 use Rattle.cabinet.proofs.Listing.{cells_so_far}
 use Rattle.cabinet.proofs.cabinet.Cabinet.cells.Given as goal
 
-abbrev pub invariant-loop-k : goal.invariant-loop-k
-invariant-loop-k l = (length l.list.items ≤ l.k) × (shown_list l.list.items ≡ cells_so_far (network l.self) l.k)
+abbrev pub invariant-loop-trio : goal.invariant-loop-trio
+invariant-loop-trio l =
+    (goal.iterator-loop-trio).can_next l.trio-iterator × (goal.iterator-loop-trio).is_finite l.trio-iterator
+    × (length l.list.items ≤ length l.yielded) × (shown_list l.list.items ≡ cells_so_far (network l.self) (length l.yielded))
