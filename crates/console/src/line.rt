@@ -93,5 +93,5 @@ pub fn parse(line: &[u8]) -> Option<Request>
     if line.len() > LONGEST_LINE {
         return None;
     }
-    named_call(*letter as char, rest)
+    named_call(char::from(*letter), rest)
 }

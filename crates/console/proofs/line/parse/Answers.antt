@@ -1,5 +1,6 @@
 -- `parse` answers nothing at an empty line and past 40 bytes, and else what the first byte names.
-use Rattle.std.proofs.Common.{sym, ◌∙◌, arith, ltb-false, ltb-true}
+use Rattle.std.proofs.Common.{◌-◌, length, take, drop, sym, ap, ◌∙◌, arith, ltb-false, ltb-true}
+use Rattle.console.specs.Requests.{named_call}
 use Rattle.console.proofs.Calls.{request_none, request_long, request_named}
 use Rattle.console.proofs.line.parse.Goals as goal
 
@@ -10,4 +11,6 @@ pub returns-then-line-gt-LONGEST_LINE : goal.returns-then-line-gt-LONGEST_LINE
 returns-then-line-gt-LONGEST_LINE c = sym (request_long _ (omega arith))
 
 pub returns : goal.returns
-returns c = c.named_call.ensures ∙ sym (request_named _ (omega (arith, ltb-false)) (omega arith))
+returns c =
+    let line = c.args.line.now in
+    c.named_call.ensures ∙ ap (λ l. named_call l (take (length line - 1) (drop 1 line))) c.from.ensures ∙ sym (request_named line (omega (arith, ltb-false)) (omega arith))
