@@ -2,9 +2,9 @@
 use Rattle.std.proofs.Common.{◌≡◌, ◌+◌, ◌-◌, not, [], map, length, take, drop, Ok, sym, ap, ◌∙◌, arith, length-drop}
 use lib.ListN.{length-map}
 use Rattle.std.proofs.lemmas.List.{take_all}
-use Rattle.std.proofs.lemmas.Bool.{eq-eqb, ne_eqb}
+use Rattle.std.proofs.lemmas.Bool.{eq-eqb}
 use Rattle.method.specs.Method.{by_cells}
-use Rattle.network.proofs.Dues.{hit, miss}
+use Rattle.network.proofs.Dues.{miss}
 use Rattle.network.proofs.Keeps.{limits}
 use Rattle.network.specs.Networks.{module_count, voter_count}
 use Rattle.network.specs.Questions.{weights_mismatch}
@@ -17,15 +17,6 @@ use Rattle.cabinet.proofs.cabinet.Cabinet.weigh.Goals as goal
 
 pub overflow_add-voter_count : goal.overflow_add-voter_count
 overflow_add-voter_count g c = let l = limits (network c.args.self.now) c.args.self.now.limits in omega (arith, l.few_voters, l.few_modules, c.len-voter_count.ensures, c.len.ensures)
-
-pub returns-then-weights-voter_count : goal.returns-then-weights-voter_count
-returns-then-weights-voter_count g c =
-    let w = g.W.Weight in
-    let n = network c.args.self.now in
-    let ws = read_all w.value c.args.weights.now in
-    let long : length ws ≡ length c.args.weights.now = length-map c.args.weights.now (read w.value) in
-    let other : length ws ≡ voter_count n + module_count n → ⊥ = λ e. c.if-weights-voter_count.true (omega (arith, e, long, c.len-voter_count.ensures, c.len.ensures)) in
-    sym (ap (λ o. answered o (by_cells w.kind n ws)) (hit (weights_mismatch (length ws) n) [] (ap not (ne_eqb (length ws) (voter_count n + module_count n) other))))
 
 pub returns : goal.returns
 returns g c =

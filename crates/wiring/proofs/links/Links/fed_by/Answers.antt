@@ -8,9 +8,6 @@ use Rattle.sets.proofs.Through.{all_gone, gone_through, next_member}
 use Rattle.wiring.specs.Wires.{fed_by_some, feeds}
 use Rattle.wiring.proofs.links.Links.fed_by.Goals as goal
 
-pub loop-v-init : goal.loop-v-init
-loop-v-init c = (tt, tt, c.into_iter-v-iterator.ensures.into_iter_gives, c.empty-fed.ensures)
-
 pub offset_bounds-self-v : goal.offset_bounds-self-v
 offset_bounds-self-v c = omega (arith, (next_member c.args.voters c.loop-v.yielded c.in-Some.ensures.steps c.loop-v.invariant.2).0)
 

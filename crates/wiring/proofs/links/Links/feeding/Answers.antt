@@ -1,14 +1,10 @@
 -- Each voter whose row meets the set is found.
-use Rattle.std.proofs.Common.{◌≡◌, ℕ, ◌+◌, ltb, sym, ap, ◌∙◌, subst, arith}
-use Rattle.std.proofs.lemmas.Bool.{and_left, le-ltb}
+use Rattle.std.proofs.Common.{◌≡◌, ℕ, ◌+◌, sym, ap, ◌∙◌, subst, arith}
 use Rattle.sets.specs.Sets.{member}
 use Rattle.sets.specs.declared.TrioSet.{TrioSet}
 use Rattle.wiring.proofs.Grown.{feeding_more, feeding_none, feeding_same, feeding_so_far, overlap_feeds}
 use Rattle.wiring.proofs.links.Links.feeding.Goals as goal
 use Rattle.wiring.proofs.links.Links.feeding.Goals.{then-meets, else-meets}
-
-pub loop-v-init : goal.loop-v-init
-loop-v-init c v = c.empty-found.ensures v ∙ sym (and_left (ltb v 0) _ (le-ltb v 0 (omega arith)))
 
 pub loop-v-preserved : goal.loop-v-preserved
 loop-v-preserved c =
