@@ -50,10 +50,8 @@ impl Console {
         ensures answer { told_by result ≡ line_answer line.now (network_in self.old) }
         ensures after { network_in self.new ≡ after_line line.now (network_in self.old) }
     {
-        match parse(line) {
-            Some(request) => self.call(request),
-            None => Err(Refusal::BadLine),
-        }
+        let request = parse(line).ok_or(Refusal::BadLine)?;
+        self.call(request)
     }
 
     // Makes the call on the cabinet.

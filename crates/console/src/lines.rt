@@ -9,7 +9,7 @@ const NEWLINE: u8 = b'\n';
 const KEPT: usize = 41;
 
 // A line so far: its first bytes, since a line of the input may be of any length.
-#[derive(Drop)]
+#[derive(Clone, PartialEq, Eq, Debug, Drop)]
 pub struct LineBuffer {
     bytes: ArrayVec<u8, KEPT>,
 }

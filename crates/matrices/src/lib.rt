@@ -23,7 +23,7 @@ mod tests {
         assert_eq!(rt; square.entry(17, 0), None);
         assert!(rt; square.write(&mut [0; 542]).is_err());
         let mut buffer = [b'-'; 544];
-        assert_eq!(rt; square.write(&mut buffer).ok(), Some(543));
+        assert_eq!(rt; square.write(&mut buffer), Ok(543));
         assert_eq!(rt; &buffer[62..67], b"0 1 0".as_slice());
         assert_eq!(rt; &buffer[541..], b" 0-".as_slice());
     }

@@ -1,4 +1,4 @@
-// What the rules of a cabinet speak of: its trios, and theorems about them.
+// What the rules of a cabinet speak of: its trios and links, and theorems about them.
 #![tactic(auto)]
 
 ghost use Rattle.network.specs.Chains.{ChainsAgree};

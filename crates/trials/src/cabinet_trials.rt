@@ -1,24 +1,27 @@
 // Cabinets are wired, cut and asked.
-use crate::wirings::{MESH, is_set, link, wired};
+use crate::wirings::{MESH, link, set_of, wired};
 use network::Trio;
 use refusals::Refusal;
 use std::test::Fail;
 use wiring::Cell;
 
-// Whether the cell has just these voter trios and module trios.
-fn is_cell(cell: Cell, voters: &[usize], modules: &[usize]) -> bool {
-    is_set(cell.voters, voters) && is_set(cell.modules, modules)
+// The cell of these voter trios and module trios.
+fn cell_of(voters: &[usize], modules: &[usize]) -> Cell {
+    Cell {
+        voters: set_of(voters),
+        modules: set_of(modules),
+    }
 }
 
 #[test]
 fn cells_join_and_part(rt: HostRuntime) -> Result<(), Fail> {
     let mut cabinet = wired(4, 3, &MESH)?;
     assert_eq!(rt; cabinet.cell_count(), 1);
-    assert!(rt; is_cell(cabinet.cell(0)?, &[0, 1, 2, 3], &[0, 1, 2]));
+    assert_eq!(rt; cabinet.cell(0)?, cell_of(&[0, 1, 2, 3], &[0, 1, 2]));
     cabinet.cut(link(1, 1))?;
     assert_eq!(rt; cabinet.cell_count(), 2);
-    assert!(rt; is_cell(cabinet.cell(0)?, &[0, 1], &[0]));
-    assert!(rt; is_cell(cabinet.cell(1)?, &[2, 3], &[1, 2]));
+    assert_eq!(rt; cabinet.cell(0)?, cell_of(&[0, 1], &[0]));
+    assert_eq!(rt; cabinet.cell(1)?, cell_of(&[2, 3], &[1, 2]));
     assert_eq!(rt; cabinet.cell_of(Trio::Module(1)), Ok(1));
     assert_eq!(rt; cabinet.is_linked(link(1, 1)), Ok(false));
     Ok(())
@@ -33,7 +36,7 @@ fn cells_are_numbered_by_their_first_trio(rt: HostRuntime) -> Result<(), Fail> {
     assert_eq!(rt; cabinet.cell_of(Trio::Module(2)), Ok(1));
     assert_eq!(rt; cabinet.cell_of(Trio::Module(0)), Ok(2));
     assert_eq!(rt; cabinet.cell_of(Trio::Module(1)), Ok(3));
-    assert!(rt; cabinet.cell(4).is_err());
+    assert_eq!(rt; cabinet.cell(4), Err(Refusal::NoCell));
     Ok(())
 }
 

@@ -1,5 +1,5 @@
 // The combinations of a cell with four voter trios.
-use crate::wirings::{MESH, is_set, link, wired};
+use crate::wirings::{MESH, link, set_of, wired};
 use algebra::Weight;
 use scales::Count;
 use sets::TrioSet;
@@ -54,9 +54,9 @@ fn ways_and_fed_modules(rt: HostRuntime) -> Result<(), Fail> {
     let voters = cabinet.cell(0)?.voters;
     for (i, row) in ROWS.iter().enumerate() {
         let chosen = combination_of(voters, i + 1);
-        assert!(rt; is_set(chosen, row.0));
-        assert_eq!(rt; cabinet.total(&just_faulty(chosen))?.n, row.1);
-        assert!(rt; is_set(links.fed_by(chosen), row.2));
+        assert_eq!(rt; chosen, set_of(row.0));
+        assert_eq!(rt; cabinet.total(&just_faulty(chosen))?, Count { n: row.1 });
+        assert_eq!(rt; links.fed_by(chosen), set_of(row.2));
     }
     Ok(())
 }

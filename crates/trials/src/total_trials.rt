@@ -27,14 +27,8 @@ fn patterns_are_counted_on_two_scales(rt: HostRuntime) -> Result<(), Fail> {
     let residues = Weights::alike(Residue::unit(), Residue::unit());
     assert_eq!(rt; cabinet.total(&[counts; 7])?, Count { n: 760 });
     assert_eq!(rt; cabinet.total(&[residues; 7])?, Residue { n: 81 });
-    assert_eq!(rt;
-        cabinet.total(&[counts; 6]).err(),
-        Some(Refusal::WeightsMismatch)
-    );
-    assert_eq!(rt;
-        cabinet.total(&[counts; 8]).err(),
-        Some(Refusal::WeightsMismatch)
-    );
+    assert_eq!(rt; cabinet.total(&[counts; 6]), Err(Refusal::WeightsMismatch));
+    assert_eq!(rt; cabinet.total(&[counts; 8]), Err(Refusal::WeightsMismatch));
     assert_eq!(rt; Refusal::WeightsMismatch.number(), 9);
     Ok(())
 }

@@ -39,7 +39,7 @@ pub(crate) fn wired(
     Ok(cabinet)
 }
 
-// Whether the set has just these members.
-pub(crate) fn is_set(set: TrioSet, members: &[usize]) -> bool {
-    set.len() == members.len() && members.iter().all(|i| set.contains(*i))
+// The set of these numbers.
+pub(crate) fn set_of(members: &[usize]) -> TrioSet {
+    members.iter().fold(TrioSet::empty(), |set, i| set.with(*i))
 }

@@ -1,8 +1,7 @@
 // A cell by its members.
-ghost use Rattle.std.specs.Prelude.{◌≡◌, ◌+◌, ◌&&◌, length};
+ghost use Rattle.std.specs.Prelude.{◌≡◌, ◌&&◌};
 ghost use Rattle.network.specs.Chains.{same_trio};
 ghost use Rattle.network.specs.declared.Trio.{Trio};
-ghost use Rattle.sets.specs.Sets.{members};
 ghost use Rattle.wiring.specs.CellSets.{holds, in_range, starts_at};
 
 use network::Trio;

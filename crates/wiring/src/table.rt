@@ -11,7 +11,7 @@ pub struct TrioRecord {
 }
 
 // Up to N trios.
-#[derive(Drop)]
+#[derive(Clone, PartialEq, Eq, Debug, Drop)]
 pub struct TrioTable<const N: usize> {
     trios: ArrayVec<TrioRecord, N>,
 }

@@ -1,10 +1,8 @@
 // The cells of a cabinet, found from its links.
-ghost use Rattle.std.specs.Prelude.{◌≡◌, ◌+◌, ◌<◌, position, slice_index_or};
+ghost use Rattle.std.specs.Prelude.{◌≡◌, position};
 ghost use Rattle.std.specs.Result.{result_map_both};
 ghost use Rattle.network.specs.Cells.{all_cells, cell_count};
-ghost use Rattle.network.specs.Networks.{trios, voter_count, module_count};
 ghost use Rattle.network.specs.Questions.{cell_answer, cell_of_answer};
-ghost use Rattle.network.specs.declared.Trio.TheVariants.{Voter};
 ghost use Rattle.wiring.specs.CellSets.{holds, shown};
 ghost use Rattle.cabinet.specs.CellLists.{shown_list};
 ghost use Rattle.cabinet.specs.Cabinets.{network};

@@ -1,5 +1,5 @@
 // Fault matrices from their entries, and the entries of one.
-ghost use Rattle.std.specs.Prelude.{◌≡◌, ◌<◌, ◌&&◌, if◌then◌else◌, Some, None, nat_lt};
+ghost use Rattle.std.specs.Prelude.{◌≡◌, ◌&&◌, if◌then◌else◌, Some, None, nat_lt};
 ghost use Rattle.matrices.specs.FaultMatrices.{entry_at, module_fault, powers, voter_fault};
 ghost use Rattle.matrices.specs.Values.{matrix_of, matrix_value};
 

@@ -12,19 +12,11 @@ impl<W: Weight> Weight for PerPosition<W> {
     ghost value = { at_position W.Weight.value };
 
     fn nothing() -> PerPosition<W> {
-        PerPosition {
-            a: W::nothing(),
-            b: W::nothing(),
-            c: W::nothing(),
-        }
+        PerPosition::same(W::nothing())
     }
 
     fn unit() -> PerPosition<W> {
-        PerPosition {
-            a: W::unit(),
-            b: W::unit(),
-            c: W::unit(),
-        }
+        PerPosition::same(W::unit())
     }
 
     fn plus(&self, other: &PerPosition<W>) -> PerPosition<W> {
