@@ -38,7 +38,7 @@ pub trait Scale: Weight {
     // the bytes that a weight is printed as
     ghost print: { Self → List ℕ };
 
-    // The letter.
+    // The letter, by a method, since a clause cannot cite the constant.
     fn symbol() -> char
         ensures { result ≡ sign };
 

@@ -65,7 +65,8 @@ fn link(text: &[u8]) -> Option<Link>
     })
 }
 
-// The call that a letter names, with the numbers that follow it.
+// The call that a letter names, with the numbers that follow it. Each number was held to its limit when it was read, so
+// the casts lose nothing.
 fn named_call(letter: char, rest: &[u8]) -> Option<Request>
     ensures { result ≡ named_call letter rest.now }
 {

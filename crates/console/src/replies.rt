@@ -28,6 +28,7 @@ fn write_total<S: Scale>(buffer: &mut [u8], sum: &S) -> Option<usize>
     ensures value { result ≡ Some (length (reply_text (Ok (on_scale S.Scale.sign (S.Scale.print sum.now))))) }
     ensures after { buffer.new ≡ placed 0 (reply_text (Ok (on_scale S.Scale.sign (S.Scale.print sum.now)))) buffer.old }
 {
+    // a scale's letter is ASCII, so it is one byte
     let start = put(buffer, 0, &[S::symbol() as u8, b' '])?;
     let long = sum.write(&mut buffer[start..]).ok()?;
     put(buffer, start + long, b"\n")

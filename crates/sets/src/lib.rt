@@ -102,6 +102,7 @@ impl TrioSet {
     pub fn len(self) -> usize
         ensures { result ≡ length (members self) }
     {
+        // std has no From<u32> for usize
         self.bits.count_ones() as usize
     }
 
@@ -112,6 +113,7 @@ impl TrioSet {
         if self.bits == 0 {
             return None;
         }
+        // likewise
         Some(self.bits.trailing_zeros() as usize)
     }
 }

@@ -1,4 +1,5 @@
-// Numbers and words in lines of bytes: how they are written into a buffer, and how they are read.
+// Numbers and words in lines of bytes: how they are written into a buffer, and how they are read. A place goes beside each
+// buffer; a writer that borrows the buffer would need a clause on what its lender gets back.
 #![tactic(auto)]
 
 ghost use Rattle.std.specs.Prelude.{◌≡◌, ◌≤◌, length, decimal};

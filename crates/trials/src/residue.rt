@@ -23,6 +23,7 @@ impl Residue {
         ensures { result.n ≡ (remainder n).number }
     {
         Residue {
+            // below 97
             n: (n % MODULUS) as u8,
         }
     }

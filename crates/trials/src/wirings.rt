@@ -9,7 +9,7 @@ pub(crate) fn link(voter: usize, module: usize) -> Link {
     Link { voter, module }
 }
 
-// The links between four voter trios and three module trios.
+// The links between four voter trios and three module trios, as pairs, since a constant cannot call a function.
 pub(crate) const MESH: [(usize, usize); 7] = [
     (0, 0),
     (1, 0),

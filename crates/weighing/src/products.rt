@@ -8,7 +8,8 @@ use crate::weights::Weights;
 use algebra::Weight;
 use sets::TrioSet;
 
-// The product of the shares of the trios of a set. `share` says what the weights of a trio add.
+// The product of the shares of the trios of a set. `share` says what the weights of a trio add. The loop goes over the
+// weights with their index; by the set's members each would be looked up at an index to be bounded.
 pub(crate) fn product_over<W, P: Weight, F: Fn(&Weights<W>) -> P>(
     entries: &[Weights<W>],
     set: TrioSet,

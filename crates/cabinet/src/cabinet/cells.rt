@@ -37,7 +37,7 @@ impl Cabinet {
         self.cells().len()
     }
 
-    // The number of a trio's cell.
+    // The number of a trio's cell: how many cells come before it. A trio that is present is in one.
     pub fn cell_of(&self, trio: Trio) -> Result<usize, Refusal>
         ensures { result ≡ cell_of_answer (network self.now) trio }
     {

@@ -12,7 +12,8 @@ use refusals::Refusal;
 use scales::{Count, Hours};
 use weighing::Weights;
 
-// Trios in a cabinet.
+// Trios in a cabinet. Each total has its own row of weights: generic code cannot show that an array of a type parameter
+// fits in memory.
 const MOST_TRIOS: usize = 31;
 
 impl Console {

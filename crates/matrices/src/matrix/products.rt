@@ -13,6 +13,7 @@ impl FaultMatrix {
         ensures { residue result ≡ row_product (entry_at (matrix_value self.now)) (entry_at (matrix_value other.now)) place.row place.column a }
     {
         let mut total = 0u64;
+        // b stands in the formula twice, so the loop goes over it and not over the entries
         for b in 0..=place.column {
             let x = self.entries[COLUMNS * a + b];
             let y = other.entries[COLUMNS * (place.row - a) + (place.column - b)];

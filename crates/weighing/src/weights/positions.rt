@@ -1,4 +1,5 @@
-// Weights position by position.
+// Weights position by position. `plus` and `times` are both written out: a function over the method that they call three
+// times would need a clause on what it answers.
 ghost use Rattle.std.specs.Prelude.{◌≡◌};
 ghost use Rattle.method.specs.Method.{over_positions};
 ghost use Rattle.weighing.specs.Entries.{at_position, each_position};

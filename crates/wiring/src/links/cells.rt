@@ -47,7 +47,7 @@ impl Links {
         fed
     }
 
-    // The voters that feed some module of the set.
+    // The voters that feed some module of the set. Every row is asked.
     fn feeding(&self, modules: TrioSet) -> TrioSet
         ensures { (v : ℕ) → member result v ≡ feeds_some self.now modules v }
     {

@@ -1,4 +1,5 @@
-// Links put and taken out.
+// Links put and taken out. `with` and `without` differ in the row's method alone, and a closure for it would make neither
+// shorter.
 ghost use Rattle.std.specs.Prelude.{◌≡◌, ◌&&◌, [], if◌then◌else◌, filter, nat_lt};
 ghost use Rattle.network.specs.Networks.{link_of, put, stands, taken_out};
 ghost use Rattle.sets.specs.Sets.{member};
