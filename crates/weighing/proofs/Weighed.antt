@@ -5,7 +5,7 @@ use native.Mathlib.Nat.{pow-le-pow_right}
 use Rattle.std.specs.List.{range_with_len}
 use Rattle.std.proofs.Math.Bool.{and-true}
 use Rattle.std.proofs.lemmas.List.Elements.{filter-append}
-use Rattle.std.proofs.lemmas.List.{take_all, take_more}
+use Rattle.std.proofs.lemmas.List.{take_more}
 use Rattle.std.proofs.lemmas.Bool.{and_parts, cases_lt, false_from_ne_true, lt-ltb, ltb-true}
 use Rattle.algebra.specs.Laws.{Kind}
 use Rattle.algebra.specs.Sums.{product, sum}
@@ -128,6 +128,3 @@ module _ (k : Kind) {W : Type 0} (value : W → k.Value) (vs ms : List (Weights 
       now ∙ (λ j. k.times (before j) (here j))
       ∙ sym (product_append k weight_of k.unit (map (shown_below (length vs) (length ms)) (take i cells)) (shown_below (length vs) (length ms) (get_or cells i d) ∷ []))
       ∙ ap (product k weight_of) (sym (map-append (shown_below (length vs) (length ms)) (take i cells) (get_or cells i d ∷ [])) ∙ ap (map (shown_below (length vs) (length ms))) (sym (take_more cells i d within)))
-
-  pub all_cells_done : (i : ℕ) (x : k.Value) → length cells ≤ i → x ≡ cells_so_far i → x ≡ product k weight_of (map (shown_below (length vs) (length ms)) cells)
-  all_cells_done i x all before = before ∙ ap (λ cs. product k weight_of (map (shown_below (length vs) (length ms)) cs)) (take_all i cells all)

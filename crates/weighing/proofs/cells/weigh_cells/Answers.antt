@@ -1,5 +1,5 @@
 -- Each cell multiplies its weight on.
-use Rattle.weighing.proofs.Weighed.{all_cells_done, cell_on}
+use Rattle.weighing.proofs.Weighed.{cell_on}
 use Rattle.weighing.proofs.cells.weigh_cells.Goals as goal
 
 pub loop-cell-preserved : goal.loop-cell-preserved
@@ -7,8 +7,3 @@ loop-cell-preserved g c =
     let w = g.W.Weight in
     cell_on w.kind w.value c.args.voters.now c.args.modules.now c.args.links.now c.args.cells.now c.loop-cell.cell-index _ _ _ _ c.loop-cell-test.true
     c.cell.ensures c.loop-cell.invariant c.times-product.ensures
-
-pub returns : goal.returns
-returns g c =
-    let w = g.W.Weight in
-    all_cells_done w.kind w.value c.args.voters.now c.args.modules.now c.args.links.now c.args.cells.now c.loop-cell.cell-index _ c.loop-cell-test.false c.loop-cell.invariant
