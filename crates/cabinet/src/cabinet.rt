@@ -3,16 +3,12 @@ ghost use Rattle.std.specs.Prelude.{◌≡◌, true};
 ghost use Rattle.network.specs.Limits.{within_limits};
 ghost use Rattle.cabinet.specs.Parts.{network_of};
 
-use arrayvec::ArrayVec;
-use wiring::{Cell, Links, TrioTable};
+use wiring::{Links, TrioTable};
 
 mod cells;
 mod changes;
 mod questions;
 mod totals;
-
-// Cells in order of their numbers. A cabinet of 31 trios has at most 31 cells.
-pub type CellList = ArrayVec<Cell, 31>;
 
 // Up to 16 voter trios and 15 module trios, each with a part code, and the links between them.
 // Cells are worked out from the present links, so a link that was cut leaves no trace.

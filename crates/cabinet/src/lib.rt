@@ -2,5 +2,7 @@
 #![tactic(auto)]
 
 mod cabinet;
+mod cell_list;
 
-pub use cabinet::{Cabinet, CellList};
+pub use cabinet::Cabinet;
+pub use cell_list::CellList;

@@ -1,11 +1,11 @@
 -- What a line buffer holds, and what it answers.
-use Rattle.std.specs.Prelude.{◌≡◌, ℕ, cond, List, [], ◌∷◌, ◌++◌, length, take, Some, None, Option, MatchOption, ◌==◌, ◌≢◌}
+use Rattle.std.specs.Prelude.{◌≡◌, ℕ, cond, List, [], ◌∷◌, ◌++◌, take, Some, None, Option, MatchOption, ◌==◌, ◌≢◌}
 use Rattle.console.specs.Splits.{Splits}
 use Rattle.console.specs.declared.lines.LineBuffer.{LineBuffer}
 
 -- the bytes that are kept
 abbrev pub held : LineBuffer → List ℕ
-held buffer = buffer.bytes.items
+held buffer = take buffer.len buffer.bytes
 
 -- they are those of the line, up to 41 of them
 abbrev pub Keeps : List ℕ → LineBuffer → Type 0
@@ -25,7 +25,7 @@ GoesOn input full part byte r after =
 
 -- what is left when the input ends, if it is anything
 abbrev pub left_over : LineBuffer → Option LineBuffer
-left_over buffer = cond (length (held buffer) == 0) None (Some buffer)
+left_over buffer = cond (buffer.len == 0) None (Some buffer)
 
 -- at the end of the input, bytes after its last newline are a line
 abbrev pub Ends : List ℕ → Option LineBuffer → Type 0

@@ -1,5 +1,5 @@
 // The lines of an input, whose bytes come in one by one.
-use arrayvec::ArrayVec;
+ghost use Rattle.std.specs.Prelude.{◌≤◌};
 
 mod split;
 
@@ -8,8 +8,11 @@ const NEWLINE: u8 = b'\n';
 // One byte more than the longest line that the console takes, so that any longer line is still too long.
 const KEPT: usize = 41;
 
-// A line so far: its first bytes, since a line of the input may be of any length.
-#[derive(Clone, PartialEq, Eq, Debug, Drop)]
+// A line so far: its first bytes, since a line of the input may be of any length. The bytes past `len` are 0. A vector of
+// fixed capacity would not be `Copy`.
+#[derive(Clone, Copy, PartialEq, Eq, Debug)]
 pub struct LineBuffer {
-    bytes: ArrayVec<u8, KEPT>,
+    bytes: [u8; KEPT],
+    len: usize,
+    ghost within: { len ≤ 41 },
 }

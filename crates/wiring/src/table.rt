@@ -1,5 +1,5 @@
 // The trios of one kind, in order of adding.
-use arrayvec::ArrayVec;
+ghost use Rattle.std.specs.Prelude.{◌≡◌, ◌≤◌, length};
 
 mod counts;
 mod entries;
@@ -10,8 +10,11 @@ pub struct TrioRecord {
     pub code: u16,
 }
 
-// Up to N trios.
-#[derive(Clone, PartialEq, Eq, Debug, Drop)]
+// Up to N trios, the first `count` of the array. A vector of fixed capacity would not be `Copy`.
+#[derive(Clone, Copy, PartialEq, Eq, Debug)]
 pub struct TrioTable<const N: usize> {
-    trios: ArrayVec<TrioRecord, N>,
+    trios: [TrioRecord; N],
+    count: usize,
+    ghost long: { length trios ≡ N },
+    ghost fits: { count ≤ N },
 }

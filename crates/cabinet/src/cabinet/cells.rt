@@ -4,11 +4,11 @@ ghost use Rattle.std.specs.Result.{result_map_both};
 ghost use Rattle.network.specs.Cells.{all_cells, cell_count};
 ghost use Rattle.network.specs.Questions.{cell_answer, cell_of_answer};
 ghost use Rattle.wiring.specs.CellSets.{holds, shown};
-ghost use Rattle.cabinet.specs.CellLists.{shown_list};
+ghost use Rattle.cabinet.specs.CellLists.{listed, shown_list};
 ghost use Rattle.cabinet.specs.Cabinets.{network};
 
-use super::{Cabinet, CellList};
-use arrayvec::ArrayVec;
+use super::Cabinet;
+use crate::cell_list::CellList;
 use network::Trio;
 use refusals::Refusal;
 use wiring::Cell;
@@ -16,11 +16,11 @@ use wiring::Cell;
 impl Cabinet {
     // All cells: those of the trios that are the first of theirs.
     pub fn cells(&self) -> CellList
-        ensures { shown_list result.items ≡ all_cells (network self.now) }
+        ensures { shown_list (listed result) ≡ all_cells (network self.now) }
     {
         let voters = (0..self.voters.len()).map(Trio::Voter);
         let modules = (0..self.modules.len()).map(Trio::Module);
-        let mut list = ArrayVec::new();
+        let mut list = CellList::new();
         for trio in voters.chain(modules) {
             let cell = self.links.cell_around(trio);
             if cell.starts_at(trio) {
@@ -34,7 +34,7 @@ impl Cabinet {
     pub fn cell_count(&self) -> usize
         ensures { result ≡ cell_count (network self.now) }
     {
-        self.cells().len()
+        self.cells().as_slice().len()
     }
 
     // The number of a trio's cell: how many cells come before it. A trio that is present is in one.
@@ -43,8 +43,9 @@ impl Cabinet {
     {
         self.present(trio)?;
         let list = self.cells();
-        let number = first_holding(list.as_slice(), trio);
-        Ok(number.unwrap_or(list.len()))
+        let cells = list.as_slice();
+        let number = first_holding(cells, trio);
+        Ok(number.unwrap_or(cells.len()))
     }
 
     // A cell's voter trios and module trios.

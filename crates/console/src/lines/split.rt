@@ -5,8 +5,7 @@ ghost use Rattle.console.specs.Held.{Accepts, Ends, GoesOn, Keeps, held, left_ov
 ghost use Rattle.console.specs.Requests.{request};
 ghost use Rattle.console.specs.Splits.{Splits};
 
-use super::{LineBuffer, NEWLINE};
-use arrayvec::ArrayVec;
+use super::{KEPT, LineBuffer, NEWLINE};
 
 impl LineBuffer {
     // An empty line.
@@ -14,7 +13,8 @@ impl LineBuffer {
         ensures { Keeps [] result }
     {
         LineBuffer {
-            bytes: ArrayVec::new(),
+            bytes: [0; KEPT],
+            len: 0,
         }
     }
 
@@ -22,8 +22,9 @@ impl LineBuffer {
     fn push(&mut self, byte: u8)
         ensures { held self.new ≡ take 41 (held self.old ++ byte ∷ []) }
     {
-        if !self.bytes.is_full() {
-            self.bytes.push(byte);
+        if self.len < KEPT {
+            self.bytes[self.len] = byte;
+            self.len += 1;
         }
     }
 
@@ -33,8 +34,9 @@ impl LineBuffer {
         ensures splits { (input : List ℕ) (full : List (List ℕ)) (part : List ℕ) → Splits input full part → Keeps part self.old → GoesOn input full part byte result self.new }
     {
         if byte == NEWLINE {
-            let bytes = self.bytes.take();
-            return Some(LineBuffer { bytes });
+            let line = *self;
+            *self = LineBuffer::new();
+            return Some(line);
         }
         self.push(byte);
         None
@@ -45,11 +47,7 @@ impl LineBuffer {
         ensures value { result ≡ left_over self }
         ensures ends { (part : List ℕ) → Keeps part self → Ends part result }
     {
-        if self.bytes.is_empty() {
-            None
-        } else {
-            Some(self)
-        }
+        if self.len == 0 { None } else { Some(self) }
     }
 
     // The bytes that are kept. They make the call that the whole line makes.
@@ -57,6 +55,6 @@ impl LineBuffer {
         ensures value { result.now ≡ held self.now }
         ensures same_call { (line : List ℕ) → Keeps line self.now → request result.now ≡ request line }
     {
-        self.bytes.as_slice()
+        &self.bytes[0..self.len]
     }
 }

@@ -2,8 +2,7 @@
 ghost use Rattle.std.specs.Prelude.{◌≡◌, [], length};
 ghost use Rattle.wiring.specs.Tables.{codes};
 
-use super::TrioTable;
-use arrayvec::ArrayVec;
+use super::{TrioRecord, TrioTable};
 
 impl<const N: usize> TrioTable<N> {
     // No trio yet.
@@ -11,7 +10,8 @@ impl<const N: usize> TrioTable<N> {
         ensures { codes result ≡ [] }
     {
         TrioTable {
-            trios: ArrayVec::new(),
+            trios: [TrioRecord { code: 0 }; N],
+            count: 0,
         }
     }
 
@@ -19,6 +19,6 @@ impl<const N: usize> TrioTable<N> {
     pub fn len(&self) -> usize
         ensures { result ≡ length (codes self.now) }
     {
-        self.trios.len()
+        self.count
     }
 }

@@ -18,8 +18,10 @@ impl<const N: usize> TrioTable<N> {
     pub fn code(&self, i: usize) -> Option<u16>
         ensures { result ≡ (if nat_lt i (length (codes self.now)) then Some (slice_index (codes self.now) i) else None) }
     {
-        let trio = self.trios.as_slice().get(i)?;
-        Some(trio.code)
+        if i >= self.count {
+            return None;
+        }
+        Some(self.trios[i].code)
     }
 
     // One trio more, at the end; answers its number, or nothing where the table is full.
@@ -27,8 +29,12 @@ impl<const N: usize> TrioTable<N> {
         ensures value { result ≡ (if nat_lt (length (codes self.old)) N then Some (length (codes self.old)) else None) }
         ensures after { codes self.new ≡ (if is_some result then codes self.old ++ (code ∷ []) else codes self.old) }
     {
-        let number = self.trios.len();
-        self.trios.try_push(TrioRecord { code }).ok()?;
+        let number = self.count;
+        if number >= N {
+            return None;
+        }
+        self.trios[number] = TrioRecord { code };
+        self.count += 1;
         Some(number)
     }
 
@@ -37,7 +43,10 @@ impl<const N: usize> TrioTable<N> {
         ensures value { result ≡ (if nat_lt i (length (codes self.old)) then Some tt else None) }
         ensures after { codes self.new ≡ slice_set (codes self.old) i code }
     {
-        let trio = self.trios.get_mut(i)?;
+        if i >= self.count {
+            return None;
+        }
+        let trio = &mut self.trios[i];
         trio.relabel(code);
         Some(())
     }

@@ -12,4 +12,4 @@ use Rattle.cabinet.proofs.cabinet.Cabinet.cell.Goals as goal
 pub returns : goal.returns
 returns c =
     ap (λ r. result_map_both shown (λ e. e) r) (c.ok_or.ensures.value ∙ ap (λ o. ok_or o NoCell) c.copied.ensures)
-    ∙ cell_read (network c.args.self.now) c.as_slice.result.now c.args.number (ap shown_list c.as_slice.ensures.value ∙ c.cells-list.ensures) c.get.result c.get.ensures.lookup.0 c.get.ensures.lookup.1
+    ∙ cell_read (network c.args.self.now) c.as_slice.result.now c.args.number (ap shown_list c.as_slice.ensures ∙ c.cells-list.ensures) c.get.result c.get.ensures.lookup.0 c.get.ensures.lookup.1

@@ -4,6 +4,7 @@ use Rattle.std.specs.Iterator.{Yields}
 use Rattle.std.proofs.lemmas.Iterator.{YieldsList, YieldsList-from_map, YieldsList-from_range}
 use Rattle.std.proofs.lemmas.Iterator.Consumers.{YieldsList-at, YieldsList-from_chain, YieldsList-turn, YieldsList-end}
 use Rattle.std.proofs.lemmas.List.{get_or_default, length_push}
+use Rattle.std.proofs.lemmas.Bool.{cond-true, lt-ltb}
 use Rattle.network.specs.Cells.{leads, members_with}
 use Rattle.network.specs.Networks.{module_count, trios, voter_count}
 use Rattle.network.specs.declared.Trio.{Trio}
@@ -12,6 +13,7 @@ use Rattle.network.proofs.Keeps.{limits}
 use Rattle.network.proofs.Trios.{length_trios, trio_present}
 use Rattle.wiring.specs.CellSets.{shown, starts_at}
 use Rattle.wiring.specs.declared.cell.Cell.{Cell}
+use Rattle.cabinet.specs.CellLists.{listed}
 use Rattle.cabinet.specs.Cabinets.{network}
 use Rattle.cabinet.specs.declared.cabinet.Cabinet.{Cabinet}
 use Rattle.cabinet.proofs.CellsOf.{Around, shown_are}
@@ -39,13 +41,6 @@ turn c =
     c.chain-trio-items.ensures.first_done c.chain-trio-items.ensures.second_done)) in
     (e.0, e.1 ∙ get_or_default (trios n) k c.in-Some.trio (Voter 0) e.0)
 
-pub push-requires : goal.push-requires
-push-requires c =
-    let n = network c.args.self.now in
-    let l = limits n c.args.self.now.limits in
-    let t = turn (goal.at.push-requires c).In-Some in
-    (omega arith, omega (arith, l.few_voters, l.few_modules, length_trios n, t.0, c.loop-trio.invariant.2))
-
 -- what is found at trio k of the network
 found : (s : Cabinet) (k : ℕ) (trio : Trio) (cell : Cell) (starts : Bool) → k < length (trios (network s)) → trio ≡ get_or (trios (network s)) k (Voter 0) → Around (network s) trio cell → starts ≡ starts_at cell trio
     → (shown cell ≡ members_with (network s) (get_or (trios (network s)) k (Voter 0))) × (leads (network s) (get_or (trios (network s)) k (Voter 0)) ≡ starts)
@@ -64,20 +59,22 @@ loop-trio-preserved-then-starts_at c =
     let n = network c.args.self.now in
     let k = length c.loop-trio.yielded in
     let cell = c.cell_around-cell.result in
-    let list = c.loop-trio.list.items in
+    let l = limits n c.args.self.now.limits in
+    let list = listed c.loop-trio.list in
     let t = turn (goal.at.loop-trio-preserved-then-starts_at c).In-Some in
+    let added = c.push.ensures ∙ cond-true _ _ _ (lt-ltb (length list) 31 (omega (arith, l.few_voters, l.few_modules, length_trios n, t.0, c.loop-trio.invariant.2))) in
     let f = found c.args.self.now k c.in-Some.trio cell c.starts_at.result t.0 t.1 c.cell_around-cell.ensures c.starts_at.ensures in
     let one = length_push c.loop-trio.yielded c.in-Some.trio in
-    let more = one_more_cell n k t.0 list _ cell c.loop-trio.invariant.3 c.push.ensures.items f.0 (f.1 ∙ c.if-starts_at.true) in
+    let more = one_more_cell n k t.0 list _ cell c.loop-trio.invariant.3 added f.0 (f.1 ∙ c.if-starts_at.true) in
     let goes = c.in-Some.ensures.goes.on c.loop-trio.invariant.1 in
-    (goes.0, goes.1, omega (arith, ap length c.push.ensures.items, length_push list cell, one, c.loop-trio.invariant.2), more ∙ ap (cells_so_far n) (sym one))
+    (goes.0, goes.1, omega (arith, ap length added, length_push list cell, one, c.loop-trio.invariant.2), more ∙ ap (cells_so_far n) (sym one))
 
 pub loop-trio-preserved : goal.loop-trio-preserved
 loop-trio-preserved c =
     let n = network c.args.self.now in
     let k = length c.loop-trio.yielded in
     let cell = c.cell_around-cell.result in
-    let list = c.loop-trio.list.items in
+    let list = listed c.loop-trio.list in
     let t = turn (goal.at.loop-trio-preserved c).In-Some in
     let f = found c.args.self.now k c.in-Some.trio cell c.starts_at.result t.0 t.1 c.cell_around-cell.ensures c.starts_at.ensures in
     let one = length_push c.loop-trio.yielded c.in-Some.trio in

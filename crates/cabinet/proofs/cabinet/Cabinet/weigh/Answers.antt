@@ -26,5 +26,5 @@ returns g c =
     let long : length ws ≡ length c.args.weights.now = length-map c.args.weights.now (read w.value) in
     let as_many : length c.args.weights.now ≡ voter_count n + module_count n = omega (arith, c.if-weights-voter_count.false, c.len-voter_count.ensures, c.len.ensures) in
     let rows = c.args.weights.now in
-    ap Ok (weighed_all n _ (ap (map shown) c.as_slice.ensures.value ∙ c.cells-list.ensures) w.kind w.value c.args.weights.now _ _ _ as_many (ap (λ v. take v rows) c.len-voter_count.ensures) (take_all (length rows - c.len-voter_count.result) (drop c.len-voter_count.result rows) (omega (arith, length-drop c.len-voter_count.result rows)) ∙ ap (λ v. drop v rows) c.len-voter_count.ensures) c.weigh_cells.ensures)
+    ap Ok (weighed_all n _ (ap (map shown) c.as_slice.ensures ∙ c.cells-list.ensures) w.kind w.value c.args.weights.now _ _ _ as_many (ap (λ v. take v rows) c.len-voter_count.ensures) (take_all (length rows - c.len-voter_count.result) (drop c.len-voter_count.result rows) (omega (arith, length-drop c.len-voter_count.result rows)) ∙ ap (λ v. drop v rows) c.len-voter_count.ensures) c.weigh_cells.ensures)
     ∙ sym (ap (λ o. answered o (by_cells w.kind n ws)) (miss (weights_mismatch (length ws) n) [] (ap not (eq-eqb (length ws) (voter_count n + module_count n) (long ∙ as_many)))))

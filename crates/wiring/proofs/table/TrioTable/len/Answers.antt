@@ -1,7 +1,7 @@
--- There are as many codes as records.
-use Rattle.std.proofs.Common.{sym, ◌∙◌}
+-- There are as many codes as the table counts.
+use Rattle.std.proofs.Common.{sym}
 use Rattle.wiring.proofs.Codes.{length_codes}
 use Rattle.wiring.proofs.table.TrioTable.len.Goals as goal
 
 pub returns : goal.returns
-returns g c = c.len.ensures.value ∙ sym (length_codes c.args.self.now)
+returns g c = sym (length_codes c.args.self.now)
