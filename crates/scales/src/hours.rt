@@ -26,12 +26,18 @@ impl Weight for Hours {
 
     // The longer one.
     fn plus(&self, other: &Hours) -> Hours {
-        (*self).max(*other)
+        let Some(a) = self.0 else {
+            return *other;
+        };
+        Hours(Some(other.0.map_or(a, |b| a.max(b))))
     }
 
     // The sum, held at the most hours; never where one of the two is.
     fn times(&self, other: &Hours) -> Hours {
-        Hours(self.0.zip(other.0).map(|(a, b)| a.saturating_add(b)))
+        let (Some(a), Some(b)) = (self.0, other.0) else {
+            return Hours::nothing();
+        };
+        Hours(Some(a.saturating_add(b)))
     }
 }
 

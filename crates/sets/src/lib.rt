@@ -43,9 +43,9 @@ impl TrioSet {
     pub fn without(self, i: usize) -> TrioSet
         ensures { (k : ℕ) → member result k ≡ (member self k && not (k == i)) }
     {
-        if self.contains(i) {
+        if i < 16 {
             TrioSet {
-                bits: self.bits ^ (1 << i),
+                bits: self.bits ^ (self.bits & (1 << i)),
             }
         } else {
             self

@@ -42,8 +42,13 @@ abbrev pub Fits : Cell → Type 0
 Fits cell = (cell.voters.bits < 2 ^ 16) × (cell.modules.bits < 2 ^ 16)
 
 -- the test that the code makes
-abbrev pub same_words : Cell → Cell → Bool
-same_words c d = eqb c.voters.bits d.voters.bits && eqb c.modules.bits d.modules.bits
+abbrev pub same_word : TrioSet → TrioSet → Bool
+same_word s t = eqb s.bits t.bits
+
+again : (a b : Bool) → (a || b) ≡ ((a || b) || b)
+again true b = refl
+again false true = refl
+again false false = refl
 
 both_same : (a b : Bool) → (a ≡ true → b ≡ true) → (b ≡ true → a ≡ true) → a ≡ b
 both_same true b f g = sym (f refl)
@@ -166,21 +171,22 @@ module _ (ls : Links) (t : Trio) (cell next : Cell) (grows : Grows ls cell next)
         (cases_Bool (holds cell u))
 
 module _ (ls : Links) (t : Trio) (cell next : Cell) (grows : Grows ls cell next) where
-  -- where the words are the same, nothing was added
-  pub grown_full : same_words next cell ≡ true → size next ≤ size cell
-  grown_full same =
-      let both = and_parts _ _ same in
-      let voters : next.voters ≡ cell.voters = ap (λ (b : ℕ). record { bits = b }) (eqb-true _ _ both.0) in
-      let modules : next.modules ≡ cell.modules = ap (λ (b : ℕ). record { bits = b }) (eqb-true _ _ both.1) in
-      omega (arith, ap (λ (s : TrioSet). length (members s)) voters, ap (λ (s : TrioSet). length (members s)) modules)
+  -- where no voter was added, growing once more adds nothing
+  pub grown_still : same_word next.voters cell.voters ≡ true → Grows ls next next
+  grown_still same =
+      let voters : next.voters ≡ cell.voters = ap (λ (b : ℕ). record { bits = b }) (eqb-true _ _ same) in
+      record {
+        modules = λ m. grows.modules m ∙ again (member cell.modules m) (fed_by_some ls cell.voters m) ∙ sym (ap₂ ◌||◌ (grows.modules m) (ap (λ (s : TrioSet). fed_by_some ls s m) voters));
+        voters = λ v. grows.voters v ∙ again (member cell.voters v) (feeds_some ls next.modules v) ∙ ap (λ b. b || feeds_some ls next.modules v) (sym (grows.voters v));
+      }
 
-  -- and else something was
-  pub grown_more : Fits next → Fits cell → same_words next cell ≡ false → size cell < size next
+  -- and else something was added
+  pub grown_more : Fits next → Fits cell → same_word next.voters cell.voters ≡ false → size cell < size next
   grown_more hn hc other = elim (cases_lt (size cell) (size next)) [
     | inl grew ↦ grew
     | inr full ↦
         let same = same_cell ls t cell next grows full hn hc in
-        absurd (both_ways (same_words next cell) other (and_from _ _ (eq-eqb _ _ (ap (λ (c : Cell). c.voters.bits) same)) (eq-eqb _ _ (ap (λ (c : Cell). c.modules.bits) same))))
+        absurd (both_ways (same_word next.voters cell.voters) other (eq-eqb _ _ (ap (λ (c : Cell). c.voters.bits) same)))
   ]
 
 -- one trio alone

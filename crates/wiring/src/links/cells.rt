@@ -12,15 +12,16 @@ use network::Trio;
 use sets::TrioSet;
 
 impl Links {
-    // The cell that a trio is in: the trio, and again and again what the links join to it, until nothing is added.
+    // The cell that a trio is in: the trio, and again and again what the links join to it, until no voter is added. What the
+    // voters feed is in by then.
     pub fn cell_around(&self, trio: Trio) -> Cell
         ensures { (u : Trio) → holds result u ≡ (in_range u && joined (edge_list self.now) trio u) }
     {
         let mut cell = Cell::only(trio);
         loop {
             let grown = self.grown(cell);
-            if grown == cell {
-                return cell;
+            if grown.voters == cell.voters {
+                return grown;
             }
             cell = grown;
         }

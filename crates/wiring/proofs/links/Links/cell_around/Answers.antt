@@ -1,6 +1,6 @@
--- The set grows along the links, and once it grows no more it is the cell.
+-- The set grows along the links, and once no voter is added it is the cell.
 use Rattle.std.proofs.Common.{sym, ◌∙◌, arith}
-use Rattle.wiring.proofs.Closure.{Grows, grown_full, grown_more, grown_sound, grown_started, is_cell, only_sound, only_started, size_bound}
+use Rattle.wiring.proofs.Closure.{Grows, grown_more, grown_sound, grown_started, grown_still, is_cell, only_sound, only_started, size_bound}
 use Rattle.wiring.proofs.links.Links.cell_around.Goals as goal
 
 pub loop-grown-init : goal.loop-grown-init
@@ -11,7 +11,8 @@ returns-then-eq c =
     let ls = c.args.self.now in let cell = c.loop-grown.cell in let next = c.grown-grown.result in
     let grows : Grows ls cell next = record { modules = c.grown-grown.ensures.modules; voters = c.grown-grown.ensures.voters } in
     let held = c.loop-grown.invariant.1 c.args.trio c.only-cell.ensures in
-    is_cell ls c.args.trio cell next grows (grown_full ls c.args.trio cell next grows (sym c.eq.ensures ∙ c.if-eq.true)) held.0 held.1
+    is_cell ls c.args.trio next next (grown_still ls c.args.trio cell next grows (sym c.eq.ensures ∙ c.if-eq.true)) (omega arith)
+    (grown_sound ls c.args.trio cell next grows held.0) (grown_started ls c.args.trio cell next grows held.1)
 
 pub loop-grown-smaller : goal.loop-grown-smaller
 loop-grown-smaller c =
