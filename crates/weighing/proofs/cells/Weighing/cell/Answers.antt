@@ -21,14 +21,6 @@ overflow_shl-j-end g c = omega (arith, c.len-j-end.ensures, len_bound c.below-vo
 pub loop-v-init : goal.loop-v-init
 loop-v-init g c = (0, omega arith, ungrouped_start c.args.self.now.links.now c.combination_of-chosen.result, c.unit-groups.ensures)
 
-pub loop-v-smaller : goal.loop-v-smaller
-loop-v-smaller g c =
-    let v = c.in-Some.v in
-    let least = first_least c.loop-v.ungrouped v (sym c.in-Some.ensures) in
-    fewer c.loop-v.ungrouped c.cell_around-group.result.voters c.difference-ungrouped.result v least.0
-    (c.cell_around-group.ensures (Voter v) ∙ and_from _ _ (lt-ltb v 16 least.1) (joined_itself _ (Voter v)))
-    c.difference-ungrouped.ensures
-
 pub loop-v-preserved : goal.loop-v-preserved
 loop-v-preserved g c =
     let w = g.W.Weight in
@@ -64,6 +56,14 @@ loop-v-preserved g c =
           here.1
           (c.times-groups.ensures ∙ ap (w.kind.times (w.value c.loop-v.groups)) weighed),
     )
+
+pub loop-v-smaller : goal.loop-v-smaller
+loop-v-smaller g c =
+    let v = c.in-Some.v in
+    let least = first_least c.loop-v.ungrouped v (sym c.in-Some.ensures) in
+    fewer c.loop-v.ungrouped c.cell_around-group.result.voters c.difference-ungrouped.result v least.0
+    (c.cell_around-group.ensures (Voter v) ∙ and_from _ _ (lt-ltb v 16 least.1) (joined_itself _ (Voter v)))
+    c.difference-ungrouped.ensures
 
 pub loop-j-preserved : goal.loop-j-preserved
 loop-j-preserved g c =
